@@ -1,2 +1,4 @@
 pub mod Ends
 pub mod Places
+pub mod Refusals
+pub mod Verdicts

@@ -72,3 +72,10 @@ module _ (ws : List ℕ) where
     wrong-word : {e : Refusal} (k : ℕ) → k < length ws → k ≤ close-place shape-of → Right-before k → fault k ≡ Some e → Faulty e
     too-short : {k : ℕ} → k ≡ length ws → length ws ≤ close-place shape-of → Right-before (length ws) → Faulty (Short k)
     too-long : {k : ℕ} → k ≡ close-place shape-of + 1 → k < length ws → Right-before k → Faulty (Close k)
+
+-- Words earn at most one refusal, and none where they are laid out as a plant's.
+abbrev pub One-refusal : Type 0
+One-refusal = (ws : List ℕ) (e f : Refusal) → Faulty ws e → Faulty ws f → e ≡ f
+
+abbrev pub Refused-or-laid-out : Type 0
+Refused-or-laid-out = (ws : List ℕ) (e : Refusal) → Faulty ws e → Laid-out ws → ⊥

@@ -3,6 +3,7 @@ pub mod bounds;
 pub mod counts;
 pub mod head;
 pub mod kind;
+pub mod laws;
 pub mod part;
 pub mod payload;
 pub mod reader;

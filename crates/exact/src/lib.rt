@@ -1,0 +1,1 @@
+// Whole-number vectors. The definitions stand in specs/.

@@ -1,0 +1,4 @@
+pub mod Describing
+pub mod Encoding
+pub mod Questions
+pub mod Saying

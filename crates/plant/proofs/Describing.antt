@@ -53,7 +53,7 @@ no-fault a b e f p q = rw (p, q)
 limit-of : List ℤ → ℤ → List ℤ → Limit
 limit-of cs z es = record { coefficients = cs; constant = z; slopes = es }
 
-same-limit : (l k : Limit) → l .coefficients ≡ k .coefficients → l .constant ≡ k .constant → l .slopes ≡ k .slopes → l ≡ k
+pub same-limit : (l k : Limit) → l .coefficients ≡ k .coefficients → l .constant ≡ k .constant → l .slopes ≡ k .slopes → l ≡ k
 unfolding limit-of
 same-limit l k a b e =
     let all : limit-of (l .coefficients) (l .constant) (l .slopes) ≡ limit-of (k .coefficients) (k .constant) (k .slopes) = rw (a, b, e) in all

@@ -1,4 +1,6 @@
 pub mod Describing
 pub mod Encoding
 pub mod Questions
+pub mod RangedRows
+pub mod Ranging
 pub mod Saying

@@ -6,3 +6,6 @@ pub mod Described
 pub mod Written
 pub mod WrittenBounds
 pub mod Loaded
+pub mod Ranges
+pub mod Ranged
+pub mod RangedBounds

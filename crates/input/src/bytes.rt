@@ -7,6 +7,7 @@ use std::alloc::Global;
 
 // The most words that are looked at, and the bytes that they have.
 pub const MOST_WORDS: usize = 16_384;
+
 pub const WORD_BYTES: usize = 4;
 
 // The words that the bytes are, the lowest byte of each first; loose bytes at the end are dropped.

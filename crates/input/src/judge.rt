@@ -19,7 +19,11 @@ use words::refusal::Refusal;
 pub fn shape_of<P: Plant>(plant: &P) -> Shape
     ensures { λ r. ⌜ r ≡ counts-of (P·Plant .meaning (now (plant .entry))) ⌝ }
 {
-    Shape { commands: plant.commands(), limits: plant.limits(), readings: plant.readings() }
+    Shape {
+        commands: plant.commands(),
+        limits: plant.limits(),
+        readings: plant.readings(),
+    }
 }
 
 // Loads the plant and lays its ranges over it: the counts of what was accepted.
@@ -35,6 +39,10 @@ pub fn judge(words: &[u32]) -> Result<Shape, Refusal>
     }
     let commands = plant.commands();
     let numbers = range_numbers(words, end, 2 * commands)?;
-    let table = range(&plant, &numbers[0..commands], &numbers[commands..2 * commands])?;
+    let table = range(
+        &plant,
+        &numbers[0..commands],
+        &numbers[commands..2 * commands],
+    )?;
     Ok(shape_of(&Ranged::new(plant, table)))
 }

@@ -37,7 +37,11 @@ pub fn range_follows(words: &[u32], end: usize) -> bool
 }
 
 // The numbers of so many range words from a place on.
-pub(crate) fn range_numbers(words: &[u32], from: usize, count: usize) -> Result<[i32; MOST_RANGE_WORDS], Refusal>
+pub(crate) fn range_numbers(
+    words: &[u32],
+    from: usize,
+    count: usize,
+) -> Result<[i32; MOST_RANGE_WORDS], Refusal>
     requires few { ⌜ count ≤ most-range-words ⌝ }
     requires within { ⌜ from ≤ length (now words) ⌝ }
     ensures { λ r. ⌜ Cases r (λ zs. Range-words (now (words .entry)) from count × Payloads (now (words .entry)) from count zs × (length zs ≡ most-range-words)) (Range-words-faulty (now (words .entry)) from count) ⌝ }

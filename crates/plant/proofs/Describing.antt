@@ -84,7 +84,7 @@ module _ (ws : List ℕ) (p : Meaning) (D : Describes ws p) where
   number-right kind k z f v s e =
       let fits : value-fits (getD ws k 0) ≡ true = rw (s .1) (le-leb (natAbs z) largest-value (value-size z v)) in
       let here : isSome (cond (eqb (kind-bits (getD ws k 0)) (code kind)) (unless (value-fits (getD ws k 0)) (ValueRefused k)) (Some (WrongKind k))) ≡ false =
-            no-fault (eqb (kind-bits (getD ws k 0)) (code kind)) (value-fits (getD ws k 0)) (ValueRefused k) (WrongKind k) (eq-eqb _ _ (s .0)) fits in
+      no-fault (eqb (kind-bits (getD ws k 0)) (code kind)) (value-fits (getD ws k 0)) (ValueRefused k) (WrongKind k) (eq-eqb _ _ (s .0)) fits in
       subst (λ q. isSome (word-fault q (getD ws k 0) k) ≡ false) (sym e)
       (subst (λ o. isSome (cond (eqb (kind-bits (getD ws k 0)) (code kind)) o (Some (WrongKind k))) ≡ false) (sym f) here)
 
@@ -97,10 +97,14 @@ module _ (ws : List ℕ) (p : Meaning) (D : Describes ws p) where
       let w = getD ws 0 0 in
       let b = D .bounded .counted in
       let said : payload-bits w ≡ head-number c = head-said in
-      let fits : head-fits w ≡ true = rw
-            ( le-leb 1 (shape-in w .commands) (omega (arith, said, b .0, b .1, b .3, b .4)), le-leb (shape-in w .commands) most-commands (omega (arith, said, b .1, b .3, b .4))
-            , le-leb 1 (shape-in w .limits) (omega (arith, said, b .1, b .2, b .3, b .4)), le-leb (shape-in w .limits) most-limits (omega (arith, said, b .1, b .3, b .4))
-            , le-leb (shape-in w .readings) most-readings (omega (arith, said, b .1, b .3, b .4)), eq-eqb (spare-in w) 0 (omega (arith, said, b .1, b .3, b .4)) ) in
+      let fits : head-fits w ≡ true = rw (
+        le-leb 1 (shape-in w .commands) (omega (arith, said, b .0, b .1, b .3, b .4)),
+        le-leb (shape-in w .commands) most-commands (omega (arith, said, b .1, b .3, b .4)),
+        le-leb 1 (shape-in w .limits) (omega (arith, said, b .1, b .2, b .3, b .4)),
+        le-leb (shape-in w .limits) most-limits (omega (arith, said, b .1, b .3, b .4)),
+        le-leb (shape-in w .readings) most-readings (omega (arith, said, b .1, b .3, b .4)),
+        eq-eqb (spare-in w) 0 (omega (arith, said, b .1, b .3, b .4)),
+      ) in
       no-fault (eqb (kind-bits w) 1) (head-fits w) Counts (WrongKind 0) (eq-eqb _ _ (D .head .0)) fits
 
   gain-right : (i : ℕ) → i < c .commands → Right (1 + i)
@@ -119,19 +123,19 @@ module _ (ws : List ℕ) (p : Meaning) (D : Describes ws p) where
       let there = due-limit c j i h k in
       ⊎-elim
       (λ a.
-        let n = nth-getD (l .coefficients) i (pos 0) (rw (F .wide) a) in
-        number-right Coefficient (limit-place c j + i) _ refl (F .coefficients .each i _ n) (S .coefficients i _ n) (there ∙ grind (arith, tells)))
+      let n = nth-getD (l .coefficients) i (pos 0) (rw (F .wide) a) in
+      number-right Coefficient (limit-place c j + i) _ refl (F .coefficients .each i _ n) (S .coefficients i _ n) (there ∙ grind (arith, tells)))
       (λ b. ⊎-elim
-        (λ s.
-          let at : limit-place c j + length (l .coefficients) ≡ limit-place c j + i = omega (arith, F .wide) in
-          number-right Constant (limit-place c j + i) (l .constant) refl (F .constant) (subst (λ x. Stands-at ws x Constant (l .constant)) at (S .constant)) (there ∙ grind (arith, tells)))
-        (λ n.
-          let o = i - (c .commands + 1) in
-          let inside : o < length (l .slopes) = omega (arith, F .deep) in
-          let t = nth-getD (l .slopes) o (pos 0) inside in
-          let at : limit-place c j + (length (l .coefficients) + 1) + o ≡ limit-place c j + i = omega (arith, F .wide) in
-          number-right Slope (limit-place c j + i) _ refl (F .slopes .each o _ t) (subst (λ x. Stands-at ws x Slope (getD (l .slopes) o (pos 0))) at (S .slopes o _ t)) (there ∙ grind (arith, tells)))
-        (cases-eq i (c .commands)))
+      (λ s.
+      let at : limit-place c j + length (l .coefficients) ≡ limit-place c j + i = omega (arith, F .wide) in
+      number-right Constant (limit-place c j + i) (l .constant) refl (F .constant) (subst (λ x. Stands-at ws x Constant (l .constant)) at (S .constant)) (there ∙ grind (arith, tells)))
+      (λ n.
+      let o = i - (c .commands + 1) in
+      let inside : o < length (l .slopes) = omega (arith, F .deep) in
+      let t = nth-getD (l .slopes) o (pos 0) inside in
+      let at : limit-place c j + (length (l .coefficients) + 1) + o ≡ limit-place c j + i = omega (arith, F .wide) in
+      number-right Slope (limit-place c j + i) _ refl (F .slopes .each o _ t) (subst (λ x. Stands-at ws x Slope (getD (l .slopes) o (pos 0))) at (S .slopes o _ t)) (there ∙ grind (arith, tells)))
+      (cases-eq i (c .commands)))
       (cases-lt i (c .commands))
 
   close-right : Right (close-place c)
@@ -146,20 +150,20 @@ module _ (ws : List ℕ) (p : Meaning) (D : Describes ws p) where
   -- Every place up to the close is the head's, a gain's, one in a limit, or the close's.
   right-at : (k : ℕ) → k < length ws → Right k
   right-at k h = ⊎-elim
-    (λ z. subst Right (sym z) head-right)
-    (λ n. ⊎-elim
+      (λ z. subst Right (sym z) head-right)
+      (λ n. ⊎-elim
       (λ g. let at : 1 + (k - 1) ≡ k = omega arith in subst Right at (gain-right (k - 1) (omega arith)))
       (λ g. ⊎-elim
-        (λ l.
-          let o = k - (1 + c .commands) in
-          let far : o < c .limits * width c = omega arith in
-          let some : 0 < width c = omega arith in
-          let at : limit-place c (o / width c) + o % width c ≡ k = omega (arith, div-add-mod' o (width c)) in
-          subst Right at (limit-right (o / width c) (o % width c) (div-below o (width c) (c .limits) some far) (mod-below o (width c) some)))
-        (λ l. let at : close-place c ≡ k = omega (arith, D .long) in subst Right at close-right)
-        (cases-lt k (close-place c)))
+      (λ l.
+      let o = k - (1 + c .commands) in
+      let far : o < c .limits * width c = omega arith in
+      let some : 0 < width c = omega arith in
+      let at : limit-place c (o / width c) + o % width c ≡ k = omega (arith, div-add-mod' o (width c)) in
+      subst Right at (limit-right (o / width c) (o % width c) (div-below o (width c) (c .limits) some far) (mod-below o (width c) some)))
+      (λ l. let at : close-place c ≡ k = omega (arith, D .long) in subst Right at close-right)
+      (cases-lt k (close-place c)))
       (cases-lt k (1 + c .commands)))
-    (cases-eq k 0)
+      (cases-eq k 0)
 
   pub described-is-laid-out : Laid-out ws
   unfolding Right
@@ -174,7 +178,7 @@ module _ (ws : List ℕ) (p : Meaning) (D : Describes ws p) where
 
   all-said : (kind : Kind) (k n : ℕ) (zs : List ℤ) → length zs ≡ n → Values zs → All-stand ws k kind zs → zs ≡ table n (λ i. number-at ws (k + i))
   all-said kind k n zs e v s = fill-by-all (λ i. number-at ws (k + i)) zs n (pos 0) e
-    (λ i h. let t = nth-getD zs i (pos 0) (omega arith) in said-number kind (k + i) _ (v .each i _ t) (s i _ t))
+      (λ i h. let t = nth-getD zs i (pos 0) (omega arith) in said-number kind (k + i) _ (v .each i _ t) (s i _ t))
 
   limit-said : (j : ℕ) (l : Limit) → nth (p .limits) j ≡ Some l → l ≡ said-limit ws c (limit-place c j)
   limit-said j l e =
@@ -182,15 +186,15 @@ module _ (ws : List ℕ) (p : Meaning) (D : Describes ws p) where
       let F = D .bounded .limits j l e in
       let k = limit-place c j in
       same-limit l (said-limit ws c k)
-        (all-said Coefficient k (c .commands) (l .coefficients) (F .wide) (F .coefficients) (S .coefficients))
-        (said-number Constant (k + length (l .coefficients)) (l .constant) (F .constant) (S .constant) ∙ ap (λ m. number-at ws (k + m)) (F .wide))
-        (all-said Slope (k + (c .commands + 1)) (c .readings) (l .slopes) (F .deep) (F .slopes) (subst (λ m. All-stand ws (k + (m + 1)) Slope (l .slopes)) (F .wide) (S .slopes)))
+      (all-said Coefficient k (c .commands) (l .coefficients) (F .wide) (F .coefficients) (S .coefficients))
+      (said-number Constant (k + length (l .coefficients)) (l .constant) (F .constant) (S .constant) ∙ ap (λ m. number-at ws (k + m)) (F .wide))
+      (all-said Slope (k + (c .commands + 1)) (c .readings) (l .slopes) (F .deep) (F .slopes) (subst (λ m. All-stand ws (k + (m + 1)) Slope (l .slopes)) (F .wide) (S .slopes)))
 
   pub described-is-said : p ≡ said ws c
   described-is-said = same-meaning p (said ws c)
-    (all-said Gain 1 (c .commands) (p .gains) refl (D .bounded .gains) (D .gains))
-    refl
-    (fill-by-all (λ j. said-limit ws c (limit-place c j)) (p .limits) (c .limits) no-limit refl
+      (all-said Gain 1 (c .commands) (p .gains) refl (D .bounded .gains) (D .gains))
+      refl
+      (fill-by-all (λ j. said-limit ws c (limit-place c j)) (p .limits) (c .limits) no-limit refl
       (λ j h. limit-said j (getD (p .limits) j no-limit) (nth-getD (p .limits) j no-limit h)))
 
 -- No list of words describes two plants.

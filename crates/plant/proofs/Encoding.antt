@@ -73,9 +73,9 @@ small z v = omega (arith, value-size z v)
 -- Past a list stands 0, which is a value too.
 value-at : (zs : List ℤ) → Values zs → (i : ℕ) → Value (getD zs i (pos 0))
 value-at zs v i = ⊎-elim
-  (λ h. v .each i _ (nth-getD zs i (pos 0) h))
-  (λ h. rw (getD-past zs i (pos 0) h) zero-is-value)
-  (cases-lt i (length zs))
+    (λ h. v .each i _ (nth-getD zs i (pos 0) h))
+    (λ h. rw (getD-past zs i (pos 0) h) zero-is-value)
+    (cases-lt i (length zs))
 
 module _ (p : Meaning) (B : Bounded p) where
   abbrev c : Shape
@@ -131,28 +131,28 @@ module _ (p : Meaning) (B : Bounded p) where
       let here : (i : ℕ) → i < width c → word-at (k + i) ≡ limit-word l i = λ i q. limit-word-at j i h q ∙ ap (λ x. limit-word x i) same in
       record {
         coefficients = λ i z t.
-          let q : i < c .commands = rw (← F .wide) (inside-list (l .coefficients) i z t) in
-          let w : limit-word l i ≡ word 3 z = rw (lt-ltb i (c .commands) q) (ap (word 3) (found-at (l .coefficients) i z (pos 0) t)) in
-          stands Coefficient (k + i) z (omega (arith, limit-inside j h)) (small z (F .coefficients .each i z t)) (here i (omega arith) ∙ w);
+            let q : i < c .commands = rw (← F .wide) (inside-list (l .coefficients) i z t) in
+            let w : limit-word l i ≡ word 3 z = rw (lt-ltb i (c .commands) q) (ap (word 3) (found-at (l .coefficients) i z (pos 0) t)) in
+            stands Coefficient (k + i) z (omega (arith, limit-inside j h)) (small z (F .coefficients .each i z t)) (here i (omega arith) ∙ w);
         constant =
-          let w : limit-word l (c .commands) ≡ word 4 (l .constant) = rw (le-ltb (c .commands) (c .commands) (omega arith), eq-eqb (c .commands) (c .commands) refl) in
-          subst (λ m. Stands-at words-of (k + m) Constant (l .constant)) (sym (F .wide))
-          (stands Constant (k + c .commands) (l .constant) (omega (arith, limit-inside j h)) (small (l .constant) (F .constant)) (here (c .commands) (omega arith) ∙ w));
+            let w : limit-word l (c .commands) ≡ word 4 (l .constant) = rw (le-ltb (c .commands) (c .commands) (omega arith), eq-eqb (c .commands) (c .commands) refl) in
+            subst (λ m. Stands-at words-of (k + m) Constant (l .constant)) (sym (F .wide))
+            (stands Constant (k + c .commands) (l .constant) (omega (arith, limit-inside j h)) (small (l .constant) (F .constant)) (here (c .commands) (omega arith) ∙ w));
         slopes = λ i z t.
-          let q : i < c .readings = rw (← F .deep) (inside-list (l .slopes) i z t) in
-          let o = c .commands + 1 + i in
-          let back : c .commands + 1 + i - (c .commands + 1) ≡ i = omega arith in
-          let w : limit-word l o ≡ word 5 z = rw (le-ltb o (c .commands) (omega arith), ne-eqb o (c .commands) (λ x. omega arith), back) (ap (word 5) (found-at (l .slopes) i z (pos 0) t)) in
-          let there : k + (length (l .coefficients) + 1) + i ≡ k + o = omega (arith, F .wide) in
-          subst (λ x. Stands-at words-of x Slope z) (sym there)
-          (stands Slope (k + o) z (omega (arith, limit-inside j h)) (small z (F .slopes .each i z t)) (here o (omega arith) ∙ w));
+            let q : i < c .readings = rw (← F .deep) (inside-list (l .slopes) i z t) in
+            let o = c .commands + 1 + i in
+            let back : c .commands + 1 + i - (c .commands + 1) ≡ i = omega arith in
+            let w : limit-word l o ≡ word 5 z = rw (le-ltb o (c .commands) (omega arith), ne-eqb o (c .commands) (λ x. omega arith), back) (ap (word 5) (found-at (l .slopes) i z (pos 0) t)) in
+            let there : k + (length (l .coefficients) + 1) + i ≡ k + o = omega (arith, F .wide) in
+            subst (λ x. Stands-at words-of x Slope z) (sym there)
+            (stands Slope (k + o) z (omega (arith, limit-inside j h)) (small z (F .slopes .each i z t)) (here o (omega arith) ∙ w));
       }
 
   limits-fit : (i : ℕ) → Values (getD (p .limits) i no-limit .coefficients) × Value (getD (p .limits) i no-limit .constant) × Values (getD (p .limits) i no-limit .slopes)
   limits-fit i = ⊎-elim
-    (λ h. let F = B .limits i _ (nth-getD (p .limits) i no-limit h) in (F .coefficients, F .constant, F .slopes))
-    (λ h. rw (getD-past (p .limits) i no-limit h) (no-values, zero-is-value, no-values))
-    (cases-lt i (length (p .limits)))
+      (λ h. let F = B .limits i _ (nth-getD (p .limits) i no-limit h) in (F .coefficients, F .constant, F .slopes))
+      (λ h. rw (getD-past (p .limits) i no-limit h) (no-values, zero-is-value, no-values))
+      (cases-lt i (length (p .limits)))
 
   -- Every word has 32 bits.
   word-at-small : (k : ℕ) → word-at k < 2 ^ 32
@@ -163,9 +163,9 @@ module _ (p : Meaning) (B : Bounded p) where
       by-test P (eqb k 0) _ _ (word-small 1 _ (omega arith) head-size)
       (by-test P (leb k (c .commands)) _ _ (word-small 2 _ (omega arith) (small _ (value-at (p .gains) (B .gains) (k - 1))))
       (by-test P (ltb k (close-place c)) _ _
-        (by-test P (ltb ((k - (1 + c .commands)) % width c) (c .commands)) _ _ (word-small 3 _ (omega arith) (small _ (value-at _ (F .0) _)))
-        (by-test P (eqb ((k - (1 + c .commands)) % width c) (c .commands)) _ _ (word-small 4 _ (omega arith) (small _ (F .1))) (word-small 5 _ (omega arith) (small _ (value-at _ (F .2) _)))))
-        (word-small 6 _ (omega arith) close-size)))
+      (by-test P (ltb ((k - (1 + c .commands)) % width c) (c .commands)) _ _ (word-small 3 _ (omega arith) (small _ (value-at _ (F .0) _)))
+      (by-test P (eqb ((k - (1 + c .commands)) % width c) (c .commands)) _ _ (word-small 4 _ (omega arith) (small _ (F .1))) (word-small 5 _ (omega arith) (small _ (value-at _ (F .2) _)))))
+      (word-small 6 _ (omega arith) close-size)))
 
   encoded : Describes words-of p
   encoded = record {
@@ -173,8 +173,8 @@ module _ (p : Meaning) (B : Bounded p) where
     long = length-table (close-place c + 1) word-at;
     head = stands Head 0 (pos (head-number c)) (omega arith) head-size refl;
     gains = λ i z e.
-      let h : i < c .commands = inside-list (p .gains) i z e in
-      stands Gain (1 + i) z (omega arith) (small z (B .gains .each i z e)) (gain-word i h ∙ ap (word 2) (found-at (p .gains) i z (pos 0) e));
+        let h : i < c .commands = inside-list (p .gains) i z e in
+        stands Gain (1 + i) z (omega arith) (small z (B .gains .each i z e)) (gain-word i h ∙ ap (word 2) (found-at (p .gains) i z (pos 0) e));
     limits = limit-stands;
     close = stands Close (close-place c) (pos (close-place c)) (omega arith) close-size close-word;
   }

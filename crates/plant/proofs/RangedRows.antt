@@ -40,7 +40,7 @@ module _ (p : Meaning) (c : Shape) (lows highs : List ℤ) (j : ℕ) (g : Limit 
   of-kept r =
       let n = length-table (c .limits) (kept-limit p c) in
       let e : at-place rows j ≡ Some (kept-limit p c (j - 1)) = at-before rows j (j - 1) (omega (arith, r .0))
-            ∙ nth-front (table (c .limits) (kept-limit p c)) _ (j - 1) (omega (arith, n, r .0, r .1)) ∙ nth-table (c .limits) _ (j - 1) (omega (arith, r .0, r .1)) in
+      ∙ nth-front (table (c .limits) (kept-limit p c)) _ (j - 1) (omega (arith, n, r .0, r .1)) ∙ nth-table (c .limits) _ (j - 1) (omega (arith, r .0, r .1)) in
       ap (λ o. within o g) e
 
   pub of-high : (i : ℕ) → Row-at c j (Some (AtMost i)) → within (at-place rows j) g ≡ g (at-most c i (getD highs i (pos 0)))
@@ -50,9 +50,9 @@ module _ (p : Meaning) (c : Shape) (lows highs : List ℤ) (j : ℕ) (g : Limit 
       let m = length-table (c .commands) ups in
       let k : c .limits + i - length (table (c .limits) (kept-limit p c)) ≡ i = omega (arith, n) in
       let e : at-place rows j ≡ Some (at-most c i (getD highs i (pos 0))) = at-before rows j (c .limits + i) (r .1)
-            ∙ nth-back (table (c .limits) (kept-limit p c)) _ (c .limits + i) (omega (arith, n))
-            ∙ ap (nth (range-limits c lows highs)) k
-            ∙ nth-front (table (c .commands) ups) _ i (omega (arith, m, r .0)) ∙ nth-table (c .commands) ups i (r .0) in
+      ∙ nth-back (table (c .limits) (kept-limit p c)) _ (c .limits + i) (omega (arith, n))
+      ∙ ap (nth (range-limits c lows highs)) k
+      ∙ nth-front (table (c .commands) ups) _ i (omega (arith, m, r .0)) ∙ nth-table (c .commands) ups i (r .0) in
       ap (λ o. within o g) e
 
   pub of-low : (i : ℕ) → Row-at c j (Some (AtLeast i)) → within (at-place rows j) g ≡ g (at-least c i (getD lows i (pos 0)))
@@ -63,18 +63,18 @@ module _ (p : Meaning) (c : Shape) (lows highs : List ℤ) (j : ℕ) (g : Limit 
       let k : c .limits + c .commands + i - length (table (c .limits) (kept-limit p c)) ≡ c .commands + i = omega (arith, n) in
       let l : c .commands + i - length (table (c .commands) ups) ≡ i = omega (arith, m) in
       let e : at-place rows j ≡ Some (at-least c i (getD lows i (pos 0))) = at-before rows j (c .limits + c .commands + i) (r .1)
-            ∙ nth-back (table (c .limits) (kept-limit p c)) _ (c .limits + c .commands + i) (omega (arith, n))
-            ∙ ap (nth (range-limits c lows highs)) k
-            ∙ nth-back (table (c .commands) ups) _ (c .commands + i) (omega (arith, m))
-            ∙ ap (nth (table (c .commands) downs)) l ∙ nth-table (c .commands) downs i (r .0) in
+      ∙ nth-back (table (c .limits) (kept-limit p c)) _ (c .limits + c .commands + i) (omega (arith, n))
+      ∙ ap (nth (range-limits c lows highs)) k
+      ∙ nth-back (table (c .commands) ups) _ (c .commands + i) (omega (arith, m))
+      ∙ ap (nth (table (c .commands) downs)) l ∙ nth-table (c .commands) downs i (r .0) in
       ap (λ o. within o g) e
 
   pub of-no-row : Row-at c j None → within (at-place rows j) g ≡ None
   of-no-row r =
       let e : at-place rows j ≡ None = ⊎-elim
-            (λ z. rw (eq-eqb j 0 z))
-            (λ h. rw (ne-eqb j 0 (λ z. omega arith)) (nth-past rows (j - 1) (omega (arith, length-ranged p c lows highs))))
-            r in
+      (λ z. rw (eq-eqb j 0 z))
+      (λ h. rw (ne-eqb j 0 (λ z. omega arith)) (nth-past rows (j - 1) (omega (arith, length-ranged p c lows highs))))
+      r in
       ap (λ o. within o g) e
 
 -- A coefficient or a slope of a limit that a range adds.
@@ -87,9 +87,9 @@ module _ (p : Meaning) (c : Shape) (lows highs : List ℤ) (j i k : ℕ) where
 
   pub range-slope : (o : Row) → Row-at c j (Some o) → ((h : ℕ) × (o ≡ AtMost h)) ⊎ ((h : ℕ) × (o ≡ AtLeast h)) → Found (c .readings) i (Some k) → slope-of (ranged p c lows highs) j i ≡ Some (pos 0)
   range-slope o r w f = ⊎-elim
-    (λ e. of-high p c lows highs j (λ l. at-place (l .slopes) i) (e .0) (subst (λ x. Row-at c j (Some x)) (e .1) r) ∙ table-found (c .readings) _ i k f)
-    (λ e. of-low p c lows highs j (λ l. at-place (l .slopes) i) (e .0) (subst (λ x. Row-at c j (Some x)) (e .1) r) ∙ table-found (c .readings) _ i k f)
-    w
+      (λ e. of-high p c lows highs j (λ l. at-place (l .slopes) i) (e .0) (subst (λ x. Row-at c j (Some x)) (e .1) r) ∙ table-found (c .readings) _ i k f)
+      (λ e. of-low p c lows highs j (λ l. at-place (l .slopes) i) (e .0) (subst (λ x. Row-at c j (Some x)) (e .1) r) ∙ table-found (c .readings) _ i k f)
+      w
 
 -- Outside the counts of commands or readings no row has a number.
 absent-in-each : (o : Option Limit) (g : Limit → Option ℤ) → ((l : Limit) → o ≡ Some l → g l ≡ None) → within o g ≡ None
@@ -99,11 +99,11 @@ absent-in-each (Some l) g h = h l refl
 module _ (q : Meaning) (B : Bounded q) (j i : ℕ) where
   pub no-coefficient : Found (length (q .gains)) i None → coefficient-of q j i ≡ None
   no-coefficient f = absent-in-each (at-place (q .limits) j) (λ l. at-place (l .coefficients) i)
-    (λ l e. at-absent (l .coefficients) (length (q .gains)) i (sym (B .limits (j - 1) l (at-some (q .limits) j l e) .wide)) f)
+      (λ l e. at-absent (l .coefficients) (length (q .gains)) i (sym (B .limits (j - 1) l (at-some (q .limits) j l e) .wide)) f)
 
   pub no-slope : Found (q .readings) i None → slope-of q j i ≡ None
   no-slope f = absent-in-each (at-place (q .limits) j) (λ l. at-place (l .slopes) i)
-    (λ l e. at-absent (l .slopes) (q .readings) i (sym (B .limits (j - 1) l (at-some (q .limits) j l e) .deep)) f)
+      (λ l e. at-absent (l .slopes) (q .readings) i (sym (B .limits (j - 1) l (at-some (q .limits) j l e) .deep)) f)
 
 -- A number asked of the plant below, at places that count from 1.
 pub asked-below : {X : Type 0} (f : ℕ → ℕ → X) (j i k : ℕ) → 1 ≤ j → i ≡ k + 1 → f (j - 1 + 1) (k + 1) ≡ f j i

@@ -44,9 +44,9 @@ module _ (p : Meaning) (B : Bounded p) where
       let there : at-place (p .limits) (j + 1) ≡ Some l = at-next (p .limits) j no-limit h in
       let F = B .limits j l (nth-getD (p .limits) j no-limit h) in
       same-limit l (kept-limit p (shape-of p) j)
-        (subst (λ o. l .coefficients ≡ table (length (p .gains)) (λ i. or-zero (within o (λ x. at-place (x .coefficients) (i + 1))))) (sym there) (asked (length (p .gains)) (l .coefficients) (F .wide)))
-        (subst (λ o. l .constant ≡ or-zero (within o (λ x. Some (x .constant)))) (sym there) refl)
-        (subst (λ o. l .slopes ≡ table (p .readings) (λ k. or-zero (within o (λ x. at-place (x .slopes) (k + 1))))) (sym there) (asked (p .readings) (l .slopes) (F .deep)))
+      (subst (λ o. l .coefficients ≡ table (length (p .gains)) (λ i. or-zero (within o (λ x. at-place (x .coefficients) (i + 1))))) (sym there) (asked (length (p .gains)) (l .coefficients) (F .wide)))
+      (subst (λ o. l .constant ≡ or-zero (within o (λ x. Some (x .constant)))) (sym there) refl)
+      (subst (λ o. l .slopes ≡ table (p .readings) (λ k. or-zero (within o (λ x. at-place (x .slopes) (k + 1))))) (sym there) (asked (p .readings) (l .slopes) (F .deep)))
 
   tabled : (lows highs : List ℤ) (t : RangeTable) → Tabled (shape-of p) lows highs t → ranged-by t p ≡ with-ranges p lows highs
   tabled lows highs t T =
@@ -56,9 +56,9 @@ module _ (p : Meaning) (B : Bounded p) where
       let downs : table (c .commands) (λ i. at-least c i (getD (t .lows) i (pos 0))) ≡ table (c .commands) (λ i. at-least c i (getD lows i (pos 0))) = same-table (c .commands) _ _ (λ i h. ap (at-least c i) (T .same-lows i h)) in
       ap (λ s. ranged p s (t .lows) (t .highs)) (T .shape)
       ∙ same-meaning (ranged p c (t .lows) (t .highs)) (with-ranges p lows highs)
-        (sym (asked (c .commands) (p .gains) refl))
-        refl
-        (ap (λ xs. xs ++ range-limits c (t .lows) (t .highs)) (sym front) ∙ ap (λ ys. p .limits ++ ys) (ap (λ xs. xs ++ table (c .commands) (λ i. at-least c i (getD (t .lows) i (pos 0)))) ups ∙ ap (λ ys. table (c .commands) (λ i. at-most c i (getD highs i (pos 0))) ++ ys) downs))
+      (sym (asked (c .commands) (p .gains) refl))
+      refl
+      (ap (λ xs. xs ++ range-limits c (t .lows) (t .highs)) (sym front) ∙ ap (λ ys. p .limits ++ ys) (ap (λ xs. xs ++ table (c .commands) (λ i. at-least c i (getD (t .lows) i (pos 0)))) ups ∙ ap (λ ys. table (c .commands) (λ i. at-most c i (getD highs i (pos 0))) ++ ys) downs))
 
   pub range-answers : (c : Shape) (lows highs : List ℤ) (r : Result RangeTable Refusal) → c ≡ shape-of p → Cases r (Tabled c lows highs) (Range-faulty lows highs c) → Range-answer p lows highs r
   range-answers c lows highs (Ok t) e T = let U = subst (λ s. Tabled s lows highs t) e T in (U .fits, tabled lows highs t U)

@@ -40,9 +40,9 @@ said-shape ws c = rw (length-table (c .commands) (λ i. number-at ws (1 + i)), l
 -- Something at a place of a table is what the function says there.
 pub in-table : {X : Type 0} (n : ℕ) (f : ℕ → X) (i : ℕ) (x : X) → nth (table n f) i ≡ Some x → (i < n) × (f i ≡ x)
 in-table n f i x e = ⊎-elim
-  (λ h. let r = nth-table n f i h in (h, cc))
-  (λ h. let r = past-table n f i h in absurd (let bad : _≡_ {A = ℕ} 0 1 = cc in omega arith))
-  (cases-lt i n)
+    (λ h. let r = nth-table n f i h in (h, cc))
+    (λ h. let r = past-table n f i h in absurd (let bad : _≡_ {A = ℕ} 0 1 = cc in omega arith))
+    (cases-lt i n)
 
 -- A small bit pattern stands for itself.
 pub small-payload : (w : ℕ) → payload-bits w < 2 ^ 27 → payload w ≡ pos (payload-bits w)
@@ -67,7 +67,7 @@ module _ (ws : List ℕ) (L : Laid-out ws) where
   number-stands : (kind : Kind) (k : ℕ) → payload-fault kind (getD ws k 0) k ≡ unless (value-fits (getD ws k 0)) (ValueRefused k) → k < length ws → due c k ≡ kind → Stands-at ws k kind (number-at ws k)
   number-stands kind k f h e =
       let p = passed (eqb (kind-bits (getD ws k 0)) (code kind)) (value-fits (getD ws k 0)) (ValueRefused k) (WrongKind k)
-            (subst (λ o. isSome (cond (eqb (kind-bits (getD ws k 0)) (code kind)) o (Some (WrongKind k))) ≡ false) f (right-as kind k h e)) in
+      (subst (λ o. isSome (cond (eqb (kind-bits (getD ws k 0)) (code kind)) o (Some (WrongKind k))) ≡ false) f (right-as kind k h e)) in
       (eqb-true _ _ (p .0), rw (p .1))
 
   bounds : In-bounds c
@@ -87,19 +87,19 @@ module _ (ws : List ℕ) (L : Laid-out ws) where
   limit-stands : (j : ℕ) → j < c .limits → Limit-stands ws (limit-place c j) (said-limit ws c (limit-place c j))
   limit-stands j h = record {
     coefficients = λ i z e.
-      let t = in-table (c .commands) (λ i. number-at ws (limit-place c j + i)) i z e in
-      let k : column-kind c i ≡ Coefficient = rw (lt-ltb i (c .commands) (t .0)) in
-      subst (Stands-at ws (limit-place c j + i) Coefficient) (t .1) (column-stands Coefficient j i h (omega (arith, t .0)) k refl);
+        let t = in-table (c .commands) (λ i. number-at ws (limit-place c j + i)) i z e in
+        let k : column-kind c i ≡ Coefficient = rw (lt-ltb i (c .commands) (t .0)) in
+        subst (Stands-at ws (limit-place c j + i) Coefficient) (t .1) (column-stands Coefficient j i h (omega (arith, t .0)) k refl);
     constant =
-      let k : column-kind c (c .commands) ≡ Constant = rw (le-ltb (c .commands) (c .commands) (omega arith), eq-eqb (c .commands) (c .commands) refl) in
-      rw (length-table (c .commands) (λ i. number-at ws (limit-place c j + i))) (column-stands Constant j (c .commands) h (omega arith) k refl);
+        let k : column-kind c (c .commands) ≡ Constant = rw (le-ltb (c .commands) (c .commands) (omega arith), eq-eqb (c .commands) (c .commands) refl) in
+        rw (length-table (c .commands) (λ i. number-at ws (limit-place c j + i))) (column-stands Constant j (c .commands) h (omega arith) k refl);
     slopes = λ i z e.
-      let t = in-table (c .readings) (λ i. number-at ws (limit-place c j + (c .commands + 1) + i)) i z e in
-      let at : limit-place c j + (c .commands + 1) + i ≡ limit-place c j + (c .commands + 1 + i) = omega arith in
-      let k : column-kind c (c .commands + 1 + i) ≡ Slope = rw (le-ltb (c .commands + 1 + i) (c .commands) (omega arith), ne-eqb (c .commands + 1 + i) (c .commands) (λ x. omega arith)) in
-      rw (length-table (c .commands) (λ i. number-at ws (limit-place c j + i)))
-      (subst (Stands-at ws (limit-place c j + (c .commands + 1) + i) Slope) (t .1)
-      (subst (λ x. Stands-at ws x Slope (number-at ws x)) (sym at) (column-stands Slope j (c .commands + 1 + i) h (omega (arith, t .0)) k refl)));
+        let t = in-table (c .readings) (λ i. number-at ws (limit-place c j + (c .commands + 1) + i)) i z e in
+        let at : limit-place c j + (c .commands + 1) + i ≡ limit-place c j + (c .commands + 1 + i) = omega arith in
+        let k : column-kind c (c .commands + 1 + i) ≡ Slope = rw (le-ltb (c .commands + 1 + i) (c .commands) (omega arith), ne-eqb (c .commands + 1 + i) (c .commands) (λ x. omega arith)) in
+        rw (length-table (c .commands) (λ i. number-at ws (limit-place c j + i)))
+        (subst (Stands-at ws (limit-place c j + (c .commands + 1) + i) Slope) (t .1)
+        (subst (λ x. Stands-at ws x Slope (number-at ws x)) (sym at) (column-stands Slope j (c .commands + 1 + i) h (omega (arith, t .0)) k refl)));
   }
 
   head-stands : Stands-at ws 0 Head (pos (head-number c))
@@ -124,10 +124,10 @@ module _ (ws : List ℕ) (L : Laid-out ws) where
         long = L .long ∙ ap (λ x. close-place x + 1) (sym same);
         head = subst (λ x. Stands-at ws 0 Head (pos (head-number x))) (sym same) head-stands;
         gains = λ i z e.
-          let t = in-table (c .commands) (λ i. number-at ws (1 + i)) i z e in
-          subst (Stands-at ws (1 + i) Gain) (t .1) (number-stands Gain (1 + i) refl (omega (arith, L .long, t .0)) (due-gain c i (t .0)));
+            let t = in-table (c .commands) (λ i. number-at ws (1 + i)) i z e in
+            subst (Stands-at ws (1 + i) Gain) (t .1) (number-stands Gain (1 + i) refl (omega (arith, L .long, t .0)) (due-gain c i (t .0)));
         limits = λ j l e.
-          let t = in-table (c .limits) (λ j. said-limit ws c (limit-place c j)) j l e in
-          subst (λ x. Limit-stands ws (limit-place x j) l) (sym same) (subst (Limit-stands ws (limit-place c j)) (t .1) (limit-stands j (t .0)));
+            let t = in-table (c .limits) (λ j. said-limit ws c (limit-place c j)) j l e in
+            subst (λ x. Limit-stands ws (limit-place x j) l) (sym same) (subst (Limit-stands ws (limit-place c j)) (t .1) (limit-stands j (t .0)));
         close = subst (λ x. Stands-at ws (close-place x) Close (pos (close-place x))) (sym same) close-stands;
       }

@@ -37,9 +37,9 @@ value-within (Some x) g v = v x refl
 -- Something at a place from 1 stands at the place before it from 0.
 pub at-some : {X : Type 0} (xs : List X) (i : ℕ) (x : X) → at-place xs i ≡ Some x → nth xs (i - 1) ≡ Some x
 at-some xs i x e = ⊎-elim
-  (λ z. let t = eq-eqb i 0 z in absurd (let bad : _≡_ {A = ℕ} 0 1 = let n : at-place xs i ≡ None = rw t in cc in omega arith))
-  (λ n. let t : at-place xs i ≡ nth xs (i - 1) = rw (ne-eqb i 0 n) in sym t ∙ e)
-  (cases-eq i 0)
+    (λ z. let t = eq-eqb i 0 z in absurd (let bad : _≡_ {A = ℕ} 0 1 = let n : at-place xs i ≡ None = rw t in cc in omega arith))
+    (λ n. let t : at-place xs i ≡ nth xs (i - 1) = rw (ne-eqb i 0 n) in sym t ∙ e)
+    (cases-eq i 0)
 
 value-at : (zs : List ℤ) → Values zs → (i : ℕ) → Value (or-zero (at-place zs i))
 value-at zs v i = value-or-zero (at-place zs i) (λ z e. v .each (i - 1) z (at-some zs i z e))
@@ -78,9 +78,9 @@ module _ (p : Meaning) (B : Bounded p) (c : Shape) where
 -- What holds of everything in two lists holds of everything in the two end to end.
 each-of-both : {X : Type 0} (P : X → Type 0) (xs ys : List X) → ((j : ℕ) (x : X) → nth xs j ≡ Some x → P x) → ((j : ℕ) (x : X) → nth ys j ≡ Some x → P x) → (j : ℕ) (x : X) → nth (xs ++ ys) j ≡ Some x → P x
 each-of-both P xs ys p q j x e = ⊎-elim
-  (λ h. p j x (sym (nth-front xs ys j h) ∙ e))
-  (λ h. q (j - length xs) x (sym (nth-back xs ys j h) ∙ e))
-  (cases-lt j (length xs))
+    (λ h. p j x (sym (nth-front xs ys j h) ∙ e))
+    (λ h. q (j - length xs) x (sym (nth-back xs ys j h) ∙ e))
+    (cases-lt j (length xs))
 
 pub length-ranged : (p : Meaning) (c : Shape) (lows highs : List ℤ) → length (ranged p c lows highs .limits) ≡ c .limits + 2 * c .commands
 length-ranged p c lows highs = simp (length-append, length-table) (omega arith)
@@ -92,10 +92,10 @@ ranged-bounded p B t =
     let few = length-ranged p c (t .lows) (t .highs) in
     let wide = length-table (c .commands) (λ i. or-zero (gain-of p (i + 1))) in
     let fits : (j : ℕ) (l : Limit) → nth (ranged-by t p .limits) j ≡ Some l → Fits c l = each-of-both (Fits c) (table (c .limits) (kept-limit p c)) (range-limits c (t .lows) (t .highs))
-          (each-of-table (Fits c) (c .limits) _ (λ j h. kept-fits p B c j))
-          (each-of-both (Fits c) _ _
-            (each-of-table (Fits c) (c .commands) _ (λ i h. alone-fits p B c i (pos 1) one-is-value _ (t .«high_values» i (omega (arith, f .1)))))
-            (each-of-table (Fits c) (c .commands) _ (λ i h. alone-fits p B c i (negsuc 0) minus-one-is-value _ (negated _ (t .«low_values» i (omega (arith, f .1))))))) in
+    (each-of-table (Fits c) (c .limits) _ (λ j h. kept-fits p B c j))
+    (each-of-both (Fits c) _ _
+    (each-of-table (Fits c) (c .commands) _ (λ i h. alone-fits p B c i (pos 1) one-is-value _ (t .«high_values» i (omega (arith, f .1)))))
+    (each-of-table (Fits c) (c .commands) _ (λ i h. alone-fits p B c i (negsuc 0) minus-one-is-value _ (negated _ (t .«low_values» i (omega (arith, f .1))))))) in
     record {
       counted = rw wide (f .0, f .1, omega (arith, few, f .2), omega (arith, few, f .3), f .4);
       gains = record { each = each-of-table Value (c .commands) _ (λ i h. value-at (p .gains) (B .gains) (i + 1)) };

@@ -26,9 +26,9 @@ past-table n f i h = nth-past (table n f) i (rw (length-table n f) h)
 -- What holds of f at each place holds of everything in the table.
 pub each-of-table : {X : Type 0} (P : X → Type 0) (n : ℕ) (f : ℕ → X) → ((i : ℕ) → i < n → P (f i)) → (i : ℕ) (x : X) → nth (table n f) i ≡ Some x → P x
 each-of-table P n f h i x e = ⊎-elim
-  (λ k. let r = nth-table n f i k in let same : f i ≡ x = cc in subst P same (h i k))
-  (λ k. let r = past-table n f i k in absurd (let bad : _≡_ {A = ℕ} 0 1 = cc in omega arith))
-  (cases-lt i n)
+    (λ k. let r = nth-table n f i k in let same : f i ≡ x = cc in subst P same (h i k))
+    (λ k. let r = past-table n f i k in absurd (let bad : _≡_ {A = ℕ} 0 1 = cc in omega arith))
+    (cases-lt i n)
 
 pub nth-front : {X : Type 0} (xs ys : List X) (j : ℕ) → j < length xs → nth (xs ++ ys) j ≡ nth xs j
 nth-front [] ys j h = absurd (omega arith)
@@ -48,9 +48,9 @@ at-found xs n i k f =
 
 pub at-absent : {X : Type 0} (xs : List X) (n i : ℕ) → n ≡ length xs → Found n i None → at-place xs i ≡ None
 at-absent xs n i e f = ⊎-elim
-  (λ z. rw (eq-eqb i 0 z))
-  (λ h. rw (ne-eqb i 0 (λ z. omega arith)) (nth-past xs (i - 1) (omega arith)))
-  f
+    (λ z. rw (eq-eqb i 0 z))
+    (λ h. rw (ne-eqb i 0 (λ z. omega arith)) (nth-past xs (i - 1) (omega arith)))
+    f
 
 pub table-found : {X : Type 0} (n : ℕ) (f : ℕ → X) (i k : ℕ) → Found n i (Some k) → at-place (table n f) i ≡ Some (f k)
 table-found n f i k h = at-found (table n f) n i k h ∙ nth-table n f k (h .1)

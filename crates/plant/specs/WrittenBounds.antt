@@ -32,9 +32,9 @@ small-is-value z h = (omega (arith, ints), omega (arith, ints))
 
 pub in-bounds-is-value : (z : ℤ) → Value (in-bounds-or-zero z)
 in-bounds-is-value z = ⊎-elim
-  (λ e. rw e (small-is-value z (leb-true (natAbs z) largest-value e)))
-  (λ e. rw e zero-is-value)
-  (cases-bool (leb (natAbs z) largest-value))
+    (λ e. rw e (small-is-value z (leb-true (natAbs z) largest-value e)))
+    (λ e. rw e zero-is-value)
+    (cases-bool (leb (natAbs z) largest-value))
 
 module _ (ws : List ℕ) (c : Shape) (b : In-bounds c) where
   number-is-value : (k : ℕ) → Value (number-at ws k)

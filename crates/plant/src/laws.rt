@@ -3,10 +3,8 @@ ghost use Rattle.plant.specs.Described.{One-plant, Every-plant};
 
 pub fn words_describe_at_most_one_plant()
     ensures { λ _. ⌜ One-plant ⌝ }
-{
-}
+{}
 
 pub fn every_plant_in_bounds_has_words()
     ensures { λ _. ⌜ Every-plant ⌝ }
-{
-}
+{}

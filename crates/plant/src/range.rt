@@ -69,19 +69,30 @@ fn judge(shape: Shape, lows: &[i32], highs: &[i32]) -> Result<RangeTable, Refusa
         return Err(Refusal::Value(k + 1));
     }
     let commands = shape.commands;
-    if lows.len() != commands || highs.len() != commands || shape.limits + 2 * commands > MOST_LIMITS {
+    if lows.len() != commands
+        || highs.len() != commands
+        || shape.limits + 2 * commands > MOST_LIMITS
+    {
         return Err(Refusal::Range(0));
     }
     if let Some(k) = first_crossed(lows, highs) {
         return Err(Refusal::Range(k + 1));
     }
-    Ok(RangeTable { shape, lows: padded(lows), highs: padded(highs) })
+    Ok(RangeTable {
+        shape,
+        lows: padded(lows),
+        highs: padded(highs),
+    })
 }
 
 // Judges lows and highs over a plant. With the table that it answers, `Ranged::new` makes the plant with these ranges.
 pub fn range<P: Plant>(below: &P, lows: &[i32], highs: &[i32]) -> Result<RangeTable, Refusal>
     ensures { λ r. ⌜ Range-answer (P·Plant .meaning (now (below .entry))) (now (lows .entry)) (now (highs .entry)) r ⌝ }
 {
-    let shape = Shape { commands: below.commands(), limits: below.limits(), readings: below.readings() };
+    let shape = Shape {
+        commands: below.commands(),
+        limits: below.limits(),
+        readings: below.readings(),
+    };
     judge(shape, lows, highs)
 }

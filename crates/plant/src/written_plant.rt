@@ -20,7 +20,11 @@ impl Written<'_> {
             return 0;
         }
         let number = payload(self.words[place]);
-        if -LARGEST_VALUE <= number && number <= LARGEST_VALUE { number } else { 0 }
+        if -LARGEST_VALUE <= number && number <= LARGEST_VALUE {
+            number
+        } else {
+            0
+        }
     }
 
     // The number in a column of a limit, both from 0.

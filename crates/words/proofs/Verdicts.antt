@@ -21,9 +21,9 @@ faulty-here o e p q = let z : _≡_ {A = ℕ} 0 1 = cc in omega arith
 module _ (ws : List ℕ) where
   first-wrong : (k l : ℕ) (e f : Refusal) → Right-before ws k → fault ws k ≡ Some e → Right-before ws l → fault ws l ≡ Some f → e ≡ f
   first-wrong k l e f r p s q = ⊎-elim
-    (λ same. let here : fault ws k ≡ Some f = rw same q in cc)
-    (⊎-elim (λ h. absurd (faulty-here (fault ws k) e p (s k h))) (λ h. absurd (faulty-here (fault ws l) f q (r l h))))
-    (cases-order k l)
+      (λ same. let here : fault ws k ≡ Some f = rw same q in cc)
+      (⊎-elim (λ h. absurd (faulty-here (fault ws k) e p (s k h))) (λ h. absurd (faulty-here (fault ws l) f q (r l h))))
+      (cases-order k l)
 
   pub one-refusal : (e f : Refusal) → Faulty ws e → Faulty ws f → e ≡ f
   one-refusal e f (wrong-word k a b r p) (wrong-word l c d s q) = first-wrong k l e f r p s q

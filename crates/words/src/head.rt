@@ -9,8 +9,11 @@ use crate::counts::Counts;
 use crate::counts::Shape;
 
 const BYTE: u32 = 256;
+
 const TWO_BYTES: u32 = 65_536;
+
 const THREE_BYTES: u32 = 16_777_216;
+
 const SPARE_VALUES: u32 = 16;
 
 impl Counts {
@@ -20,7 +23,12 @@ impl Counts {
     {
         let commands = shape.commands;
         let limits = shape.limits;
-        if commands < 1 || commands > MOST_COMMANDS || limits < 1 || limits > MOST_LIMITS || shape.readings > MOST_READINGS {
+        if commands < 1
+            || commands > MOST_COMMANDS
+            || limits < 1
+            || limits > MOST_LIMITS
+            || shape.readings > MOST_READINGS
+        {
             return None;
         }
         Some(Counts { shape })
@@ -36,7 +44,11 @@ impl Counts {
         let limits = (head % BYTE) as usize;
         let commands = (head / BYTE % BYTE) as usize;
         let readings = (head / TWO_BYTES % BYTE) as usize;
-        Counts::new(Shape { commands, limits, readings })
+        Counts::new(Shape {
+            commands,
+            limits,
+            readings,
+        })
     }
 
     pub fn shape(&self) -> Shape

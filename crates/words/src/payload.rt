@@ -5,8 +5,11 @@ ghost use Rattle.std.specs.Options.{Cases as BySome};
 ghost use Rattle.words.specs.Words.{kind-bits, payload as payload-of, payload-bits as low-bits, signed, Held-in-payload, Is-word};
 
 const PAYLOAD_BITS: u32 = 28;
+
 const PAYLOAD_MASK: u32 = 0x0fff_ffff;
+
 const SIGN: u32 = 0x0800_0000;
+
 const SPAN: i32 = 0x1000_0000;
 
 // The largest number that a payload holds; the least is one below its negative.
@@ -33,7 +36,11 @@ pub fn payload(word: u32) -> i32
     ensures { λ r. ⌜ r ≡ payload-of word ⌝ }
 {
     let low = payload_bits(word);
-    if low < SIGN { low as i32 } else { low as i32 - SPAN }
+    if low < SIGN {
+        low as i32
+    } else {
+        low as i32 - SPAN
+    }
 }
 
 // The 28 bits that stand for a number, where there are any.

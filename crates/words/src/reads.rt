@@ -72,7 +72,11 @@ impl<'a> Reader<'a> {
         ensures words { λ r. ⌜ held (r .words) ≡ now (words .entry) ⌝ }
         ensures place { λ r. ⌜ r .at ≡ 0 ⌝ }
     {
-        Reader { words, at: 0, state: State::Head }
+        Reader {
+            words,
+            at: 0,
+            state: State::Head,
+        }
     }
 
     // The next part, or none once the close is read. A refusal leaves the reader where it stands.

@@ -88,11 +88,14 @@ impl Refusal {
         ensures { λ r. ⌜ r ≡ layer-of self ⌝ }
     {
         match self {
-            Refusal::Short(_) | Refusal::WrongKind(_) | Refusal::Counts | Refusal::Value(_) | Refusal::Close(_) => {
-                Layer::Words
-            }
+            Refusal::Short(_)
+            | Refusal::WrongKind(_)
+            | Refusal::Counts
+            | Refusal::Value(_)
+            | Refusal::Close(_) => { Layer::Words }
             Refusal::Range(_) => Layer::Plant,
-            Refusal::Width(_) | Refusal::NoBest | Refusal::NoCommand(Shown::ByLimit(_)) => Layer::Tableau,
+            Refusal::Width(_) | Refusal::NoBest | Refusal::NoCommand(Shown::ByLimit(_)) =>
+                Layer::Tableau,
             Refusal::Begun
             | Refusal::NotBegun
             | Refusal::Reading(_)

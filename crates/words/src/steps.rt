@@ -80,6 +80,10 @@ impl State {
             }
             _ => return Err(Refusal::WrongKind(at)),
         }
-        if is_value(word) { Ok(()) } else { Err(Refusal::Value(at)) }
+        if is_value(word) {
+            Ok(())
+        } else {
+            Err(Refusal::Value(at))
+        }
     }
 }

@@ -49,9 +49,9 @@ returns c =
     let N = c .in-Continue-numbers .ensures tt in
     let R = ranges-are (c .args .words .now) n (c .commands-commands .result) _ (c .in-Continue-numbers .numbers) P (c .if-not-range-follows .ensures tt) (c .commands-commands .ensures) (N .0) (N .1) (N .2) in
     let T = c .in-Continue-table .ensures tt in
-    with-range n _ _ _ R (T .0) 
-      ( c .shape-of-2 .ensures
-      ∙ ap (λ t. shape-of (ranged-by t (said (c .new .result .below .words .now) (c .new .result .below .counts .shape)))) (c .new .ensures .table)
-      ∙ ap (λ b. shape-of (ranged-by (c .in-Continue-table .table) (said (b .words .now) (b .counts .shape)))) (c .new .ensures .below)
-      ∙ ap shape-of (T .1)
-      )
+    with-range n _ _ _ R (T .0)
+    (c .shape-of-2 .ensures
+    ∙ ap (λ t. shape-of (ranged-by t (said (c .new .result .below .words .now) (c .new .result .below .counts .shape)))) (c .new .ensures .table)
+    ∙ ap (λ b. shape-of (ranged-by (c .in-Continue-table .table) (said (b .words .now) (b .counts .shape)))) (c .new .ensures .below)
+    ∙ ap shape-of (T .1)
+    )

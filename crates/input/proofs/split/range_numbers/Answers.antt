@@ -17,8 +17,8 @@ use Rattle.input.proofs.split.range_numbers.Needs as need
 
 one-more : (ws : List ℕ) (n i at : ℕ) (zs : List ℤ) (z : ℤ) → i < length zs → at ≡ n + i → z ≡ payload (getD ws at 0) → Payloads ws n i zs → Payloads ws n (i + 1) (set zs i z)
 one-more ws n i at zs z h e p old = below-more _ _
-  (λ k l. let ne : k ≢ i = omega arith in rw getD-set-other (old k l))
-  (rw getD-set-same (p ∙ ap (λ x. payload (getD ws x 0)) e))
+    (λ k l. let ne : k ≢ i = omega arith in rw getD-set-other (old k l))
+    (rw getD-set-same (p ∙ ap (λ x. payload (getD ws x 0)) e))
 
 pub returns-then-at-words : need.returns-then-at-words
 returns-then-at-words c =
@@ -37,10 +37,10 @@ loop-i-again c =
     let i = c .loop-i .i in
     let n = c .args .from in
     let fits : SFits w32 (c .payload .result) = search needs in
-    let range : Is-range ws (c .loop-i .at) = sym (c .kind-number .ensures) ∙ c .if-kind-number-ne-RANGE .left in
-    ( omega (arith, v .0)
-    , omega arith
-    , below-more _ _ (v .2) (omega (arith, v .0), subst (Is-range ws) (v .0) range)
-    , one-more ws n i (c .loop-i .at) (c .loop-i .numbers) _ (omega (arith, v .4)) (v .0) (toZ-ofZ w32 (c .payload .result) fits ∙ c .payload .ensures) (v .3)
-    , simp length-set (v .4)
+    let range : Is-range ws (c .loop-i .at) = sym (c .kind-number .ensures) ∙ c .if-kind-number-ne-RANGE .left in (
+      omega (arith, v .0),
+      omega arith,
+      below-more _ _ (v .2) (omega (arith, v .0), subst (Is-range ws) (v .0) range),
+      one-more ws n i (c .loop-i .at) (c .loop-i .numbers) _ (omega (arith, v .4)) (v .0) (toZ-ofZ w32 (c .payload .result) fits ∙ c .payload .ensures) (v .3),
+      simp length-set (v .4),
     )

@@ -13,10 +13,10 @@ returns-in-Some-first-not-value c = high-not-value (c .in-Some-first-not-value .
 
 pub returns-then-lows-commands : need.returns-then-lows-commands
 returns-then-lows-commands c = counts-wrong (search needs) (λ r. elim (c .then-lows-commands .came) [
-    then-lows-commands·by·then-lows-commands w ↦ w .if-lows-commands .taken (r .0)
+  | then-lows-commands·by·then-lows-commands w ↦ w .if-lows-commands .taken (r .0)
   | then-lows-commands·by·else-lows-commands·then-highs-commands w ↦ w .if-highs-commands .taken (r .1)
   | then-lows-commands·by·else-lows-commands·else-highs-commands·then-shape-commands-gt-MOST-LIMITS w ↦ omega (arith, r .2, w .if-shape-commands-gt-MOST-LIMITS .taken)
-  ])
+])
 
 pub returns-in-Some-first-crossed : need.returns-in-Some-first-crossed
 returns-in-Some-first-crossed c =

@@ -20,9 +20,9 @@ copied xs ys i z h e old = below-more _ _ (λ k l. let ne : k ≢ i = omega arit
 
 values : (n : ℕ) (xs : List ℤ) (i : ℕ) (z : ℤ) → i < length xs → Value z → ((k : ℕ) → k < n → Value (getD xs k (pos 0))) → (k : ℕ) → k < n → Value (getD (set xs i z) k (pos 0))
 values n xs i z h v old k l = ⊎-elim
-  (λ e. let same : getD (set xs i z) k (pos 0) ≡ z = rw e (getD-set-same xs i z (pos 0) h) in subst Value (sym same) v)
-  (λ ne. let apart : k ≢ i = ne in rw getD-set-other (old k l))
-  (cases-eq k i)
+    (λ e. let same : getD (set xs i z) k (pos 0) ≡ z = rw e (getD-set-same xs i z (pos 0) h) in subst Value (sym same) v)
+    (λ ne. let apart : k ≢ i = ne in rw getD-set-other (old k l))
+    (cases-eq k i)
 
 pub loop-k-again : need.loop-k-again
 loop-k-again c =

@@ -9,4 +9,4 @@ pub returns : need.returns
 returns g c =
     let p = g .P·Plant .meaning (c .args .below .now) in
     range-answers p (g .P·Plant .bounded (c .args .below .now)) _ (c .args .lows .now) (c .args .highs .now) (c .judge .result)
-      (same-shape _ (shape-of p) (c .commands .ensures, c .limits .ensures, c .readings .ensures)) (c .judge .ensures)
+    (same-shape _ (shape-of p) (c .commands .ensures, c .limits .ensures, c .readings .ensures)) (c .judge .ensures)

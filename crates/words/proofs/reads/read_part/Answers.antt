@@ -30,11 +30,11 @@ loop-taken-again c =
     let ws = c .args .words .now in
     let i = c .loop-taken .inv in
     let taken : c .loop-taken .-taken < span (c .args .first) = omega arith in
-    let step = c .in-Continue-step .ensures tt in
-    ( omega (arith, i .0)
-    , omega arith
-    , right-here ws (c .args .from) (c .args .first) (c .pre .stands) (c .pre .more) (c .loop-taken .-taken) taken (c .loop-taken .at) (c .loop-taken .state) (i .0) (i .3) (i .2) (step .0)
-    , moved-here ws (c .args .from) (c .args .first) (c .pre .stands) (c .pre .more) (c .loop-taken .-taken) taken (c .loop-taken .at) (c .loop-taken .state) (i .0) (i .3) (i .2) (c .step .last .self) (step .1)
+    let step = c .in-Continue-step .ensures tt in (
+      omega (arith, i .0),
+      omega arith,
+      right-here ws (c .args .from) (c .args .first) (c .pre .stands) (c .pre .more) (c .loop-taken .-taken) taken (c .loop-taken .at) (c .loop-taken .state) (i .0) (i .3) (i .2) (step .0),
+      moved-here ws (c .args .from) (c .args .first) (c .pre .stands) (c .pre .more) (c .loop-taken .-taken) taken (c .loop-taken .at) (c .loop-taken .state) (i .0) (i .3) (i .2) (c .step .last .self) (step .1),
     )
 
 pub returns : need.returns

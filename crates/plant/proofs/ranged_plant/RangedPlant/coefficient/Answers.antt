@@ -39,7 +39,7 @@ returns-in-Kept g c =
     let f = c .in-Continue-command .ensures tt in
     let fits : SFits w32 (c .unwrap-or .result) = search needs in
     handed-out (c .unwrap-or .result) _ _ fits (c .unwrap-or .ensures ∙ ap or-zero (c .coefficient .ensures ∙ sym (asked-below (coefficient-of p) (c .args .j) (c .args .i) k (row .0) (f .0))))
-      (of-kept p (t .shape) (t .lows) (t .highs) (c .args .j) (λ l. at-place (l .coefficients) (c .args .i)) row ∙ table-found (t .shape .commands) _ (c .args .i) k f)
+    (of-kept p (t .shape) (t .lows) (t .highs) (c .args .j) (λ l. at-place (l .coefficients) (c .args .i)) row ∙ table-found (t .shape .commands) _ (c .args .i) k f)
 
 pub returns-then-command-held : need.returns-then-command-held
 returns-then-command-held g c =

@@ -29,7 +29,7 @@ returns-in-Kept g c =
     let row : Row-at (t .shape) (c .args .j) (Some Kept) = subst (λ o. Row-at (t .shape) (c .args .j) (Some o)) (c .in-Kept .is) (c .in-Continue-row .ensures tt) in
     let fits : SFits w32 (c .unwrap-or .result) = search needs in
     handed-out (c .unwrap-or .result) _ _ fits (c .unwrap-or .ensures ∙ ap or-zero (c .constant .ensures ∙ sym (asked-of-limit (constant-of p) (c .args .j) (row .0))))
-      (of-kept p (t .shape) (t .lows) (t .highs) (c .args .j) (λ l. Some (l .constant)) row)
+    (of-kept p (t .shape) (t .lows) (t .highs) (c .args .j) (λ l. Some (l .constant)) row)
 
 pub returns-in-AtMost : need.returns-in-AtMost
 returns-in-AtMost g c =

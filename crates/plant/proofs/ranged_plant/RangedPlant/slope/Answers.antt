@@ -35,7 +35,7 @@ returns-in-Kept g c =
     let f = c .in-Continue-from-zero .ensures tt in
     let fits : SFits w32 (c .unwrap-or .result) = search needs in
     handed-out (c .unwrap-or .result) _ _ fits (c .unwrap-or .ensures ∙ ap or-zero (c .slope .ensures ∙ sym (asked-below (slope-of p) (c .args .j) (c .args .k) k (row .0) (f .0))))
-      (of-kept p (t .shape) (t .lows) (t .highs) (c .args .j) (λ l. at-place (l .slopes) (c .args .k)) row ∙ table-found (t .shape .readings) _ (c .args .k) k f)
+    (of-kept p (t .shape) (t .lows) (t .highs) (c .args .j) (λ l. at-place (l .slopes) (c .args .k)) row ∙ table-found (t .shape .readings) _ (c .args .k) k f)
 
 pub returns-in-AtMost : need.returns-in-AtMost
 returns-in-AtMost g c =

@@ -35,10 +35,10 @@ returns c =
     let more = longer ws (r .at) (r .state) (reader-stands r) (not-done (r .state) (c .in-rest .not-Done)) in
     record {
       words = refl;
-      handed =
-        ( c .part-at .ensures .part
-        , ap (λ n. r .at + n) (c .span .ensures ∙ sym (c .part-at .ensures .span))
-        , omega (arith, more, at)
-        , rw at ((c .in-Continue-state .ensures tt) .right)
-        );
+      handed = (
+        c .part-at .ensures .part,
+        ap (λ n. r .at + n) (c .span .ensures ∙ sym (c .part-at .ensures .span)),
+        omega (arith, more, at),
+        rw at ((c .in-Continue-state .ensures tt) .right),
+      );
     }

@@ -11,11 +11,11 @@ use Rattle.words.specs.Faults.{Faulty}
 use Rattle.words.specs.Words.{payload}
 use Rattle.words.specs.declared.counts.Shape.{Shape}
 use Rattle.words.specs.declared.refusal.Refusal.{Refusal}
-use Rattle.plant.specs.Meaning.{Meaning}
+use Rattle.plant.specs.Meaning.{Meaning, Bounded}
 use Rattle.plant.specs.Described.{Describes}
 use Rattle.plant.specs.Written.{said}
-use Rattle.input.specs.Split.{most-range-words, Plant-ends, Range-follows, Range-words, Payloads}
-use Rattle.input.specs.Judged.{Plant-is, Ranges-are}
+use Rattle.input.specs.Split.{most-range-words, Range-follows, Range-words, Payloads}
+use Rattle.input.specs.Judged.{Ranges-are}
 
 whole : (ws : List ℕ) (n : ℕ) → take (n - 0) ws ≡ take n ws
 whole ws n = ap (λ k. take k ws) (omega arith)
@@ -24,9 +24,9 @@ pub refused-part : (ws : List ℕ) (n : ℕ) (e : Refusal) → Faulty (take (n -
 refused-part ws n e f = subst (λ vs. Faulty vs e) (whole ws n) f
 
 -- The plant made of the words that were judged, with the counts that were answered.
-pub is-plant : (ws us : List ℕ) (n : ℕ) (c e : Shape) → Plant-ends ws n → us ≡ take (n - 0) ws → e ≡ c → Describes (take (n - 0) ws) (said (take (n - 0) ws) c) → Plant-is ws n (said us e)
-is-plant ws us n c e ends same counts D =
-    (ends, subst (λ vs. Describes vs (said us e)) (whole ws n) (subst (λ p. Describes (take (n - 0) ws) p) (ap (said (take (n - 0) ws)) (sym counts) ∙ ap (λ vs. said vs e) (sym same)) D))
+pub is-plant : (ws us : List ℕ) (n : ℕ) (c e : Shape) → us ≡ take (n - 0) ws → e ≡ c → Describes (take (n - 0) ws) (said (take (n - 0) ws) c) → Describes (take n ws) (said us e)
+is-plant ws us n c e same counts D =
+    subst (λ vs. Describes vs (said us e)) (whole ws n) (subst (λ p. Describes (take (n - 0) ws) p) (ap (said (take (n - 0) ws)) (sym counts) ∙ ap (λ vs. said vs e) (sym same)) D)
 
 -- The lows and the highs among the numbers of the range words.
 module _ (ws : List ℕ) (n m : ℕ) (zs : List ℤ) (long : length zs ≡ most-range-words) (few : m ≤ most-commands) (all : Payloads ws n (2 * m) zs) where
@@ -45,12 +45,11 @@ module _ (ws : List ℕ) (n m : ℕ) (zs : List ℤ) (long : length zs ≡ most-
       getD-take (2 * m - m) (drop m zs) i (pos 0) (omega arith) ∙ getD-drop m zs i (pos 0) ∙ all (m + i) (omega arith) ∙ ap (λ k. payload (getD ws k 0)) place
 
 -- All of it, for the plant that was loaded.
-pub ranges-are : (ws : List ℕ) (n m : ℕ) (p : Meaning) (zs : List ℤ) → Plant-is ws n p → Range-follows ws n → m ≡ length (p .gains) → Range-words ws n (2 * m) → Payloads ws n (2 * m) zs → length zs ≡ most-range-words
+pub ranges-are : (ws : List ℕ) (n m : ℕ) (p : Meaning) (zs : List ℤ) → Bounded p → Range-follows ws n → m ≡ length (p .gains) → Range-words ws n (2 * m) → Payloads ws n (2 * m) zs → length zs ≡ most-range-words
     → Ranges-are ws n p (take (m - 0) zs) (take (2 * m - m) (drop m zs))
-ranges-are ws n m p zs P F e R N L =
-    let few : m ≤ most-commands = omega (arith, P .1 .bounded .counted .1) in
+ranges-are ws n m p zs B F e R N L =
+    let few : m ≤ most-commands = omega (arith, B .counted .1) in
     record {
-      plant = P;
       follows = F;
       range-words = subst (λ k. Range-words ws n (2 * k)) e R;
       as-many-lows = lows-long ws n m zs L few N ∙ e;

@@ -65,3 +65,10 @@ module _ (lows highs : List ℤ) where
     high-not-value : {i : ℕ} (k : ℕ) → i ≡ k + 1 → Values-before lows (length lows) → First-not-value highs k → Range-faulty c (ValueRefused i)
     counts-wrong : All-values → (Counts-right c → ⊥) → Range-faulty c (Range 0)
     crossed : {i : ℕ} (k : ℕ) → i ≡ k + 1 → All-values → Counts-right c → k < c .commands → (In-order k → ⊥) → ((h : ℕ) → h < k → In-order h) → Range-faulty c (Range i)
+
+-- Lows and highs earn at most one refusal, and none where they fit.
+abbrev pub One-range-refusal : Type 0
+One-range-refusal = (lows highs : List ℤ) (c : Shape) (e f : Refusal) → Range-faulty lows highs c e → Range-faulty lows highs c f → e ≡ f
+
+abbrev pub Refused-or-fitting : Type 0
+Refused-or-fitting = (lows highs : List ℤ) (c : Shape) (e : Refusal) → Range-faulty lows highs c e → Ranges-fit lows highs c → ⊥

@@ -3,6 +3,8 @@ use input::bytes::MOST_WORDS;
 use input::bytes::WORD_BYTES;
 use input::bytes::words_from;
 use input::judge::judge;
+use input::line::Line;
+use input::line::LineDisplay;
 use std::error::AnyError;
 use std::io::Read;
 
@@ -30,20 +32,10 @@ fn read_input(rt: &LibcRuntime) -> Result<Vec<u8>, AnyError> {
 fn run(rt: &LibcRuntime) -> Result<(), AnyError> {
     let bytes = read_input(rt)?;
     let words = words_from(rt.alloc(), &bytes)?;
-    match judge(&words) {
-        Ok(shape) => {
-            let commands = shape.commands;
-            let limits = shape.limits;
-            let readings = shape.readings;
-            println!(rt, "plant {commands} {limits} {readings}")?;
-        }
-        Err(refusal) => {
-            let number = refusal.number();
-            let layer = refusal.layer().level();
-            let place = refusal.place();
-            println!(rt, "none {number} {layer} {place}")?;
-        }
-    }
+    let line = Line {
+        verdict: judge(&words),
+    };
+    println!(rt, "{line}")?;
     Ok(())
 }
 

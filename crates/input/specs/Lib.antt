@@ -1,3 +1,4 @@
 pub mod Bytes
 pub mod Split
 pub mod Judged
+pub mod Lines

@@ -2,4 +2,5 @@
 pub mod bytes;
 pub mod judge;
 pub mod laws;
+pub mod line;
 pub mod split;

@@ -3,25 +3,17 @@
 use input::bytes::WORD_BYTES;
 use input::bytes::words_from;
 use input::judge::judge;
+use input::line::Line;
+use input::line::LineDisplay;
 use std::error::AnyError;
 use std::io::Read;
 
 fn print_case(rt: &LibcRuntime, bytes: &[u8]) -> Result<(), AnyError> {
     let words = words_from(rt.alloc(), bytes)?;
-    match judge(&words) {
-        Ok(shape) => {
-            let commands = shape.commands;
-            let limits = shape.limits;
-            let readings = shape.readings;
-            println!(rt, "plant {commands} {limits} {readings}")?;
-        }
-        Err(refusal) => {
-            let number = refusal.number();
-            let layer = refusal.layer().level();
-            let place = refusal.place();
-            println!(rt, "none {number} {layer} {place}")?;
-        }
-    }
+    let line = Line {
+        verdict: judge(&words),
+    };
+    println!(rt, "{line}")?;
     Ok(())
 }
 

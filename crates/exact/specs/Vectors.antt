@@ -16,3 +16,8 @@ dot n x y = sum n (λ i. x i *ℤ y i)
 -- The numbers of a list by their places.
 abbrev pub entries : List ℤ → ℕ → ℤ
 entries xs i = getD xs i (pos 0)
+
+-- The vector x, f 0, f 1 and so on.
+abbrev pub first-then : ℤ → (ℕ → ℤ) → ℕ → ℤ
+first-then x f zero = x
+first-then x f (suc i) = f i

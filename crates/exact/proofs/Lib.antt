@@ -1,0 +1,12 @@
+pub mod Ring
+pub mod Sums
+pub mod Positive
+pub mod EndToEnd
+pub mod Values
+pub mod Exact
+pub mod Divides
+pub mod Gcd
+pub mod Lowest
+pub mod Finite
+pub mod Sizes
+pub mod Ranks

@@ -1,0 +1,2 @@
+// Layer 3: bases, tableaus, corners and exchanges.
+pub mod theorems;

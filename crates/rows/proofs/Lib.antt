@@ -1,0 +1,4 @@
+pub mod Progress
+pub mod Grid
+pub mod Pivots
+pub mod Exchanges

@@ -1,0 +1,4 @@
+pub mod Cells
+pub mod Rewrites
+pub mod Pivots
+pub mod Guards

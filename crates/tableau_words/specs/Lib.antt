@@ -1,0 +1,4 @@
+pub mod Layout
+pub mod Held
+pub mod Exchanges
+pub mod Leaving

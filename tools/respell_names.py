@@ -13,11 +13,14 @@ import sys
 
 TOKEN = re.compile(r"[^\s(){}\[\].,;:\"`|⌜⌝∥]+")
 DECLARED = re.compile(r"^(\s*)((?:pub |abbrev |unfoldable |record |data |axiom )*)([^\s(){}\[\]:]+)\s+(?:[({].*)?:(?:\s|$)")
+LONG = re.compile(r"^(\s*)((?:pub |abbrev |unfoldable |record |data )+)([^\s(){}\[\]:]+)\s+[({]")
 BOUND = re.compile(r"\blet ([^\s(){}\[\]:]+) [:=]")
+ALIAS = re.compile(r" as ([^\s(){}\[\]:;,]+)")
 
 # Names that would fall together with another one.
 CHOSEN = {
     "In-width": "TableauInWidth",
+    "Laid_out": "LaidOut",
     "First-below": "IsFirstBelow",
     "Lowest-terms": "IsInLowestTerms",
     "No-command": "HasNoCommand",
@@ -44,7 +47,7 @@ def files(*endings):
 
 
 def is_goal_file(path):
-    return os.path.basename(path) in ("Answers.antt", "Invariants.antt", "Choices.antt", "Proof.antt")
+    return "/proofs/" in path and os.path.basename(path) in ("Answers.antt", "Invariants.antt", "Choices.antt", "Proof.antt")
 
 
 def spelled(name):
@@ -57,12 +60,17 @@ def spelled(name):
 
 def declared():
     names, fields = collections.defaultdict(set), set()
-    for path in files(".antt"):
+    for path in files(".antt", ".rt"):
         with open(path, encoding="utf-8") as f:
             lines = f.read().split("\n")
+        if path.endswith(".rt"):
+            for line in lines:
+                for b in ALIAS.findall(line) if line.lstrip().startswith("ghost use") else []:
+                    names[b].add(path)
+            continue
         record = None
         for line in lines:
-            m = DECLARED.match(line)
+            m = DECLARED.match(line) or LONG.match(line)
             if m:
                 indent, words, name = m.groups()
                 if "record" in words.split() or "data" in words.split():
@@ -74,7 +82,7 @@ def declared():
                 names[name].add(path)
                 if record is not None and len(indent) > record:
                     fields.add(name)
-            for b in BOUND.findall(line):
+            for b in ALIAS.findall(line) if line.startswith(("use ", "pub use ")) else BOUND.findall(line):
                 names[b].add(path)
     return names, fields
 
@@ -82,7 +90,7 @@ def declared():
 def plan(names):
     new = {}
     for n in names:
-        if "-" not in n[1:] and not re.fullmatch(r"[a-z0-9_']+[a-z][A-Z][a-z].*", n):
+        if not n or ("-" not in n[1:] and n not in CHOSEN and not re.fullmatch(r"[a-z0-9_']+[a-z][A-Z][a-z].*", n)):
             continue
         if not re.match(r"[A-Za-zα-ωΑ-Ω_]", n) or any(not p[:1].isalnum() for p in n.split("-")):
             continue  # an operator, or a name that a dash joins to one
@@ -116,8 +124,8 @@ def main(argv):
         goal = is_goal_file(path)
 
         def put(m):
-            t, before = m.group(0), text[max(0, m.start() - 1) : m.start()]
-            if goal and before == "." and t not in fields:
+            t, before = m.group(0), text[max(0, m.start() - 5) : m.start()]
+            if before == "NatL." or goal and before.endswith(".") and t not in fields:
                 return t
             return new.get(t, t)
 

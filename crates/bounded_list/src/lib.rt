@@ -1,4 +1,6 @@
 // A bounded list over a caller's slice.
+#![tactic(auto)]
+
 mod list;
 #[cfg(test)]
 mod tests;

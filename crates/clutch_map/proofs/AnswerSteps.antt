@@ -15,7 +15,7 @@ use Rattle.tableau.proofs.Masks.{mask_basis}
 use Rattle.words.specs.Layout.{InBounds}
 use Rattle.words.specs.declared.counts.Shape.{Shape}
 use Rattle.corner_words.proofs.Orders.{same_slack}
-use Rattle.corner_runs.specs.Answers.{Holds-corner, Some-corner}
+use Rattle.corner_runs.specs.Answers.{HoldsCorner, SomeCorner}
 use Rattle.corner_runs.specs.declared.exchanges.Exchange.{Exchange}
 use Rattle.corner_list.specs.Records.{corner, tableau_in, AllRecords}
 use Rattle.corner_list.specs.Regions.{OutOfRegion, RegionAnswer}
@@ -42,13 +42,13 @@ none_before p c θ cs k s records few out i l X mask region =
     let inside : i < length cs = omega arith in
     let (Y, holds, m) = record_corner p (corner cs i) (records i inside) in
     let same : HasSameLimits p X Y = mask_basis p X Y (mask ∙ mask_of_record cs i inside ∙ m) in
-    out i l p Y s (subst (λ (c : Shape). Holds-corner p Y (tableau_in c (corner cs i))) (sym s) holds) (region_same p θ X Y same region)
+    out i l p Y s (subst (λ (c : Shape). HoldsCorner p Y (tableau_in c (corner cs i))) (sym s) holds) (region_same p θ X Y same region)
 
 -- The corner of a record, in the words that a function of these counts reads.
-pub record_held : (p : Meaning) (c : Shape) (cs : List Corner) (k : ℕ) → c ≡ shape_of p → AllRecords p cs → k < length cs → (X : CornerOf p) × Holds-corner p X (tableau_in c (corner cs k)) × ((corner cs k).mask ≡ mask_of p X)
+pub record_held : (p : Meaning) (c : Shape) (cs : List Corner) (k : ℕ) → c ≡ shape_of p → AllRecords p cs → k < length cs → (X : CornerOf p) × HoldsCorner p X (tableau_in c (corner cs k)) × ((corner cs k).mask ≡ mask_of p X)
 record_held p c cs k s records inside =
     let (X, holds, mask) = record_corner p (corner cs k) (records k inside) in
-    (X, subst (λ (c : Shape). Holds-corner p X (tableau_in c (corner cs k))) (sym s) holds, mask)
+    (X, subst (λ (c : Shape). HoldsCorner p X (tableau_in c (corner cs k))) (sym s) holds, mask)
 
 -- The steps, once the readings fit and the tray is long enough; xs are the records as the look has them.
 module _ (m : Map) (θ tray : List ℤ) (es : List Exchange) (most : ℕ) (c : Shape) (s : c ≡ shape_of (meaning_of m.table)) (some : 0 < length (contents m.corners))
@@ -87,10 +87,10 @@ module _ (m : Map) (θ tray : List ℤ) (es : List Exchange) (most : ℕ) (c : S
     inside : k < length cs
     inside = subst (λ xs. k < length xs) e R.0
 
-    pub region_corner : (X : CornerOf p) × Holds-corner p X (tableau_in c (corner xs k)) × ((corner xs k).mask ≡ mask_of p X)
-    region_corner = subst (λ xs. (X : CornerOf p) × Holds-corner p X (tableau_in c (corner xs k)) × ((corner xs k).mask ≡ mask_of p X)) (sym e) (record_held p c cs k s m.records inside)
+    pub region_corner : (X : CornerOf p) × HoldsCorner p X (tableau_in c (corner xs k)) × ((corner xs k).mask ≡ mask_of p X)
+    region_corner = subst (λ xs. (X : CornerOf p) × HoldsCorner p X (tableau_in c (corner xs k)) × ((corner xs k).mask ≡ mask_of p X)) (sym e) (record_held p c cs k s m.records inside)
 
-    pub region_some : Some-corner c (tableau_in c (corner xs k))
+    pub region_some : SomeCorner c (tableau_in c (corner xs k))
     region_some = let (X, holds, mask) = region_corner in record { p = p; X = X; shape = s; holds = holds }
 
     pub answered_step : (ys tray' : List ℤ) → CommandAnswer c θ (tableau_in c (corner xs k)) ys → tray' ≡ laid ys tray → Step v (seen m tray' es most) (Answer θ) (reply.Answer (record { mask = (corner xs k).mask; place = k }))

@@ -7,7 +7,7 @@ use Rattle.tableau.specs.Plants.{commands, limits, CornerOf}
 use Rattle.words.specs.Bounds.{most_limits}
 use Rattle.words.specs.declared.counts.Shape.{Shape}
 use Rattle.tableau_words.specs.Layout.{size}
-use Rattle.corner_runs.specs.Answers.{Holds-corner, Some-corner}
+use Rattle.corner_runs.specs.Answers.{HoldsCorner, SomeCorner}
 use Rattle.corner_list.specs.Outside.{clear_bits, Outside}
 use Rattle.corner_list.specs.Records.{tableau_in, corner, AllRecords}
 use Rattle.corner_list.specs.declared.corner.Corner.{Corner}
@@ -31,7 +31,7 @@ outside_clear p X (suc j) l = rw (mask_bit (limits p) (holds (commands p) X.β) 
 -- The record r holds the corner X of the pair that is due, and j is its limit.
 pub record DueIn (p : Meaning) (cs : List Corner) (pairs : ℕ) (r : Corner) (j : ℕ) : Type 0 where
   pub X : CornerOf p
-  pub holds : Holds-corner p X (tableau_in (shape_of p) r)
+  pub holds : HoldsCorner p X (tableau_in (shape_of p) r)
   pub mask : r.mask ≡ mask_of p X
   pub due : Due p (masks_of cs) pairs (pairs / pairs_each p) X j
 
@@ -58,8 +58,8 @@ module _ (p : Meaning) (cs : List Corner) (pairs : ℕ) (left : pairs < length c
       is : r ≡ corner cs (pairs / pairs_each p)
       is = record_at cs (pairs / pairs_each p) r (subst (λ (s : Shape). (pairs / each s < length cs) × (r ≡ get_or cs (pairs / each s) r)) counts got)
 
-      held : (X : CornerOf p) × Holds-corner p X (tableau_in (shape_of p) r) × (r.mask ≡ mask_of p X)
-      held = subst (λ r. (X : CornerOf p) × Holds-corner p X (tableau_in (shape_of p) r) × (r.mask ≡ mask_of p X)) (sym is) (record_corner p (corner cs (pairs / pairs_each p)) (records (pairs / pairs_each p) place_listed))
+      held : (X : CornerOf p) × HoldsCorner p X (tableau_in (shape_of p) r) × (r.mask ≡ mask_of p X)
+      held = subst (λ r. (X : CornerOf p) × HoldsCorner p X (tableau_in (shape_of p) r) × (r.mask ≡ mask_of p X)) (sym is) (record_corner p (corner cs (pairs / pairs_each p)) (records (pairs / pairs_each p) place_listed))
 
       pub limit_there : ¬ (clear_bits r.mask s.limits ≤ pairs % each s)
       limit_there l =
@@ -87,10 +87,10 @@ module _ (p : Meaning) (cs : List Corner) (pairs : ℕ) (left : pairs < length c
 
 -- What the calls on the words of the record ask.
 module _ (p : Meaning) (cs : List Corner) (pairs : ℕ) (r : Corner) (j : ℕ) (d : DueIn p cs pairs r j) (s : Shape) (counts : s ≡ shape_of p) where
-  pub due_holds : Holds-corner p d.X (take (size s) r.words)
-  due_holds = subst (λ (s : Shape). Holds-corner p d.X (take (size s) r.words)) (sym counts) d.holds
+  pub due_holds : HoldsCorner p d.X (take (size s) r.words)
+  due_holds = subst (λ (s : Shape). HoldsCorner p d.X (take (size s) r.words)) (sym counts) d.holds
 
-  pub due_corner : Some-corner s (take (size s) r.words)
+  pub due_corner : SomeCorner s (take (size s) r.words)
   due_corner = record { p = p; X = d.X; shape = counts; holds = due_holds }
 
   pub due_known : j < s.limits

@@ -9,7 +9,7 @@ use Rattle.tableau.proofs.Exchanges.{leads}
 use Rattle.words.specs.declared.counts.Shape.{Shape}
 use Rattle.words.specs.declared.refusal.Refusal.TheVariants.{Full, Width}
 use Rattle.tableau_words.specs.Layout.{size}
-use Rattle.corner_runs.specs.Answers.{Holds-corner}
+use Rattle.corner_runs.specs.Answers.{HoldsCorner}
 use Rattle.corner_list.specs.Lists.{ListsAnswer}
 use Rattle.corner_list.specs.Records.{Record, corner}
 use Rattle.corner_list.specs.declared.corner.Corner.{Corner}
@@ -31,7 +31,7 @@ pub record Crossing (p : Meaning) (masks : List ℕ) (pairs j m : ℕ) (ws : Lis
   pub place : ℕ
   pub X : CornerOf p
   pub due : Due p masks pairs place X j
-  pub holds : Holds-corner p X ws
+  pub holds : HoldsCorner p X ws
   pub left : ℕ
   pub leaves : LeftAt p X j (Some left)
   pub mask : m + 2 ^ left ≡ mask_of p X + 2 ^ j

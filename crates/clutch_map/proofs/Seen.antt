@@ -14,7 +14,7 @@ use Rattle.tableau.specs.Masks.{mask_of}
 use Rattle.tableau.specs.Plants.{CornerOf}
 use Rattle.words.specs.declared.counts.Shape.{Shape}
 use Rattle.tableau_words.specs.Layout.{size}
-use Rattle.corner_runs.specs.Answers.{Holds-corner, Some-corner}
+use Rattle.corner_runs.specs.Answers.{HoldsCorner, SomeCorner}
 use Rattle.corner_list.specs.Records.{corner, AllRecords}
 use Rattle.corner_list.specs.declared.corner.Corner.{Corner}
 use Rattle.corner_list.proofs.Listing.{record_corner}
@@ -36,13 +36,13 @@ some_force (c ∷ cs) k p h = refl
 
 -- The first corner, in its record and in the working tableau.
 module _ (p : Meaning) (cs : List Corner) (ws : List ℤ) (records : AllRecords p cs) (first : AtFirst cs ws) (some : 0 < length cs) where
-  pub first_corner : (X : CornerOf p) × Holds-corner p X (take (size (shape_of p)) ws) × (mask_of p X ≡ get_or (masks_of cs) 0 0)
+  pub first_corner : (X : CornerOf p) × HoldsCorner p X (take (size (shape_of p)) ws) × (mask_of p X ≡ get_or (masks_of cs) 0 0)
   first_corner =
       let (X, holds, mask) = record_corner p (corner cs 0) (records 0 some) in
-      (X, subst (λ words. Holds-corner p X (take (size (shape_of p)) words)) (sym (first some)) holds, sym mask ∙ sym (mask_of_record cs 0 some))
+      (X, subst (λ words. HoldsCorner p X (take (size (shape_of p)) words)) (sym (first some)) holds, sym mask ∙ sym (mask_of_record cs 0 some))
 
-  pub first_some : (c : Shape) → c ≡ shape_of p → Some-corner c (take (size c) ws)
-  first_some c e = let (X, holds, mask) = first_corner in record { p = p; X = X; shape = e; holds = subst (λ (c : Shape). Holds-corner p X (take (size c) ws)) (sym e) holds }
+  pub first_some : (c : Shape) → c ≡ shape_of p → SomeCorner c (take (size c) ws)
+  first_some c e = let (X, holds, mask) = first_corner in record { p = p; X = X; shape = e; holds = subst (λ (c : Shape). HoldsCorner p X (take (size c) ws)) (sym e) holds }
 
 -- A list that was found not to be empty has a record.
 pub listed : (m : Map) (b : Bool) → b ≡ eqb (length (contents m.corners)) 0 → b ≡ false → 0 < length (contents m.corners)

@@ -2,7 +2,7 @@
 use Rattle.std.proofs.Common.{◌≡◌, ℕ, List, [], ◌∷◌, ◌++◌, length, ℤ, Ok, Err, Result, sym, refl, ap, ◌∙◌, subst, arith}
 use Rattle.tableau.specs.Masks.{mask_of}
 use Rattle.tableau.specs.Plants.{CornerOf}
-use Rattle.corner_runs.specs.Answers.{Holds-corner}
+use Rattle.corner_runs.specs.Answers.{HoldsCorner}
 use Rattle.corner_list.specs.declared.corner.Corner.{Corner}
 use Rattle.clutch_map.specs.Views.{in_force, masks_of}
 use Rattle.plant.specs.Meaning.{Meaning}
@@ -29,7 +29,7 @@ pub started_step : (v w : View) (k : ℕ) (p q : Meaning) → p ≡ q → (ws tr
 started_step v w k p q same ws tray a ready F is = subst (λ q. Step v w (Start k q) (to_start (Ok a))) same (started_at v w k p ws tray a ready F is)
 
 -- The corner that was found.
-pub found_corner : (p : Meaning) (ws tray tray' : List ℤ) (a : Started) → FirstCorner p ws tray tray' (Ok a) → (X : CornerOf p) × Holds-corner p X ws × (a.mask ≡ mask_of p X)
+pub found_corner : (p : Meaning) (ws tray tray' : List ℤ) (a : Started) → FirstCorner p ws tray tray' (Ok a) → (X : CornerOf p) × HoldsCorner p X ws × (a.mask ≡ mask_of p X)
 found_corner p ws tray tray' a (found Y X run ended same holds mask untouched) = (X, holds, mask)
 
 -- Without a corner no plant is in force, whatever the table holds.

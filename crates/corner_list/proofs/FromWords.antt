@@ -21,7 +21,7 @@ use Rattle.tableau_words.proofs.Across.{in_command}
 use Rattle.tableau_words.proofs.Rewritten.{by_column}
 use Rattle.corner_words.proofs.Masks.{limit_in}
 use Rattle.corner_words.proofs.Orders.{in_width_same}
-use Rattle.corner_runs.specs.Answers.{Holds-corner}
+use Rattle.corner_runs.specs.Answers.{HoldsCorner}
 use Rattle.corner_list.specs.Records.{CornerWords}
 
 -- The denominator in the words; `limit_in` is the limit of a row.
@@ -33,7 +33,7 @@ abbrev pub entry_in : Meaning → List ℤ → ℕ → ℕ → ℤ
 entry_in p ws r i = number_at (shape_of p) ws r (1 + i)
 
 -- What the words say of a corner whose tableau they hold.
-module _ (p : Meaning) (ws : List ℤ) (X : CornerOf p) (H : Holds-corner p X ws) where
+module _ (p : Meaning) (ws : List ℤ) (X : CornerOf p) (H : HoldsCorner p X ws) where
   abbrev m : ℕ
   m = commands p
 
@@ -91,7 +91,7 @@ module _ (p : Meaning) (ws : List ℤ) (X : CornerOf p) (H : Holds-corner p X ws
       (λ n h. rw (ne_eqb i 0 n, le-leb i m h) (ap neg_ℤ (sym (same_law k (i - 1) (omega arith)))))
       (λ n h. rw (ne_eqb i 0 n, lt-leb i m h) (sym (same_slack k (i - (1 + m)))))
 
-  told_holds : Holds-corner p told ws
+  told_holds : HoldsCorner p told ws
   told_holds = record {
     held = record {
       long = H.held.long;
@@ -106,7 +106,7 @@ module _ (p : Meaning) (ws : List ℤ) (X : CornerOf p) (H : Holds-corner p X ws
 -- The numbers of the words that hold some corner are those of a corner.
 module _ (p : Meaning) (ws : List ℤ) (t : CornerWords p ws) where
   -- What holds of each corner that the words hold, and can hold in one way only.
-  of_each : {P : Type 0} → IsProp P → ((X : CornerOf p) → Holds-corner p X ws → P) → P
+  of_each : {P : Type 0} → IsProp P → ((X : CornerOf p) → HoldsCorner p X ws → P) → P
   of_each one f = ∥∥₁_elim t one (λ h. f h.0 h.1)
 
   pub known_in : (r : ℕ) → r < commands p → limit_in ws r < limits p
@@ -130,7 +130,7 @@ module _ (p : Meaning) (ws : List ℤ) (t : CornerWords p ws) where
   abbrev pub corner_in : CornerOf p
   corner_in = record { β = limit_in ws; D = denominator_in ws; U = entry_in p ws; known = known_in; inverse = inverse_in; lowest = lowest_in; rows = positive_in }
 
-  pub corner_in_holds : Holds-corner p corner_in ws
+  pub corner_in_holds : HoldsCorner p corner_in ws
   corner_in_holds = record {
     held = record {
       long = of_each (hlevel props) (λ X H. (told_holds p ws X H).held.long);

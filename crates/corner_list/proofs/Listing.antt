@@ -10,17 +10,17 @@ use Rattle.tableau.specs.Plants.{limits, CornerOf}
 use Rattle.words.specs.Layout.{InBounds}
 use Rattle.corner_words.proofs.Masks.{mask_answered}
 use Rattle.corner_words.proofs.Numbers.{holds_widths}
-use Rattle.corner_runs.specs.Answers.{Holds-corner}
+use Rattle.corner_runs.specs.Answers.{HoldsCorner}
 use Rattle.corner_list.specs.Records.{most_words, CornerWords, tableau_in, Record, corner, AllRecords}
 use Rattle.corner_list.specs.Regions.{AllReadable}
 use Rattle.corner_list.specs.declared.corner.Corner.{Corner}
 use Rattle.corner_list.proofs.FromWords.{corner_in, corner_in_holds}
 
 -- Words that hold some corner hold the corner of their numbers.
-pub corner_from : (p : Meaning) (ws : List ℤ) → CornerWords p ws → (X : CornerOf p) × Holds-corner p X ws
+pub corner_from : (p : Meaning) (ws : List ℤ) → CornerWords p ws → (X : CornerOf p) × HoldsCorner p X ws
 corner_from p ws t = (corner_in p ws t, corner_in_holds p ws t)
 
-pub words_of_corner : (p : Meaning) (X : CornerOf p) (ws : List ℤ) → Holds-corner p X ws → CornerWords p ws
+pub words_of_corner : (p : Meaning) (X : CornerOf p) (ws : List ℤ) → HoldsCorner p X ws → CornerWords p ws
 words_of_corner p X ws H = ∣ (X, H) ∣₁
 
 pub corner_words_in_width : (p : Meaning) (ws : List ℤ) → InBounds (shape_of p) → CornerWords p ws → AllInWidth ws
@@ -31,17 +31,17 @@ module _ (p : Meaning) (r : Corner) where
   pub record_words : Record p r → CornerWords p (tableau_in (shape_of p) r)
   record_words R = ∥∥₁_map R.1 (λ h. (h.0, h.1))
 
-  pub record_mask : Record p r → (X : CornerOf p) → Holds-corner p X (tableau_in (shape_of p) r) → r.mask ≡ mask_of p X
+  pub record_mask : Record p r → (X : CornerOf p) → HoldsCorner p X (tableau_in (shape_of p) r) → r.mask ≡ mask_of p X
   record_mask R X H =
       let ws = tableau_in (shape_of p) r in
       ∥∥₁_elim R.1 (hlevel props) (λ h. h.2 ∙ sym (mask_answered (shape_of p) ws p h.0 refl h.1) ∙ mask_answered (shape_of p) ws p X refl H)
 
-  pub record_corner : Record p r → (X : CornerOf p) × Holds-corner p X (tableau_in (shape_of p) r) × (r.mask ≡ mask_of p X)
+  pub record_corner : Record p r → (X : CornerOf p) × HoldsCorner p X (tableau_in (shape_of p) r) × (r.mask ≡ mask_of p X)
   record_corner R =
       let (X, H) = corner_from p (tableau_in (shape_of p) r) (record_words R) in
       (X, H, record_mask R X H)
 
-  pub record_of : (X : CornerOf p) → length r.words ≡ most_words → Holds-corner p X (tableau_in (shape_of p) r) → r.mask ≡ mask_of p X → Record p r
+  pub record_of : (X : CornerOf p) → length r.words ≡ most_words → HoldsCorner p X (tableau_in (shape_of p) r) → r.mask ≡ mask_of p X → Record p r
   record_of X long H e = (long, ∣ (X, H, e) ∣₁)
 
 -- Lists of records.

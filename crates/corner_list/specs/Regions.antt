@@ -5,7 +5,7 @@ use Rattle.plant.specs.Meaning.{Meaning, shape_of}
 use Rattle.tableau.specs.Plants.{CornerOf}
 use Rattle.tableau.specs.Readings.{Region}
 use Rattle.words.specs.declared.counts.Shape.{Shape}
-use Rattle.corner_runs.specs.Answers.{Holds-corner}
+use Rattle.corner_runs.specs.Answers.{HoldsCorner}
 use Rattle.corner_list.specs.Records.{most_words, tableau_in, corner}
 use Rattle.corner_list.specs.declared.corner.Corner.{Corner}
 
@@ -15,11 +15,11 @@ AllReadable c rs = (k : ℕ) → k < length rs → (length (corner rs k).words �
 
 -- The region of any corner that the record holds has the reading in it,
 abbrev pub InRegion : Shape → List ℤ → Corner → Type 0
-InRegion c θ r = (p : Meaning) (X : CornerOf p) → c ≡ shape_of p → Holds-corner p X (tableau_in c r) → Region p X θ
+InRegion c θ r = (p : Meaning) (X : CornerOf p) → c ≡ shape_of p → HoldsCorner p X (tableau_in c r) → Region p X θ
 
 -- or has not.
 abbrev pub OutOfRegion : Shape → List ℤ → Corner → Type 0
-OutOfRegion c θ r = (p : Meaning) (X : CornerOf p) → c ≡ shape_of p → Holds-corner p X (tableau_in c r) → ¬ Region p X θ
+OutOfRegion c θ r = (p : Meaning) (X : CornerOf p) → c ≡ shape_of p → HoldsCorner p X (tableau_in c r) → ¬ Region p X θ
 
 -- The place of the first record whose region holds the reading, or that none does.
 abbrev pub RegionAnswer : Shape → List ℤ → List Corner → Option ℕ → Type 0

@@ -1,4 +1,6 @@
 // The list of corners: its records, and what is looked up in them.
+#![tactic(auto)]
+
 pub mod corner;
 pub mod lists;
 pub mod outside;

@@ -11,7 +11,7 @@ use Rattle.words.specs.declared.counts.Shape.{Shape}
 use Rattle.corner_words.specs.Enters.{EnteredAt, EnterAnswer}
 use Rattle.corner_words.specs.declared.enter.Entered.{Entered}
 use Rattle.corner_words.specs.declared.enter.Entered.TheVariants.{Across, NoRow, OutOfWidth}
-use Rattle.corner_runs.specs.Answers.{Holds-search, Some-search, Stopping-answer, Search-from}
+use Rattle.corner_runs.specs.Answers.{HoldsSearch, SomeSearch, StoppingAnswer, SearchFrom}
 use Rattle.corner_runs.specs.StartRuns.{LeastStopping, StartRun}
 use Rattle.corner_runs.specs.declared.search.StartEnd.TheVariants as StartEnd
 use Rattle.corner_runs.proofs.Chains.{start_short}
@@ -20,30 +20,30 @@ use Rattle.corner_runs.proofs.Chains.{start_short}
 pub record SearchingAt (p : Meaning) (X : SearchCorner p) (made : ℕ) (ws : List ℤ) : Type 0 where
   pub at : SearchCorner p
   pub run : StartRun p X made at
-  pub holds : Holds-search p at ws
+  pub holds : HoldsSearch p at ws
 
 -- It is so for any corner that the words held at first.
 abbrev pub Searching : Shape → List ℤ → ℕ → List ℤ → Type 0
-Searching c before made ws = (p : Meaning) (X : SearchCorner p) → c ≡ shape_of p → Holds-search p X before → SearchingAt p X made ws
+Searching c before made ws = (p : Meaning) (X : SearchCorner p) → c ≡ shape_of p → HoldsSearch p X before → SearchingAt p X made ws
 
 pub search_first : (c : Shape) (ws : List ℤ) → Searching c ws 0 ws
 search_first c ws p X s H = record { at = X; run = done; holds = H }
 
 module _ (c : Shape) (before ws : List ℤ) (made : ℕ) (W : Searching c before made ws) where
-  pub searched : Some-search c before → Some-search c ws
+  pub searched : SomeSearch c before → SomeSearch c ws
   searched S = let w = W S.p S.X S.shape S.holds in record { p = S.p; X = w.at; shape = S.shape; holds = w.holds }
 
-  pub made_few : Some-search c before → made < choose (c.limits + c.commands) c.commands
+  pub made_few : SomeSearch c before → made < choose (c.limits + c.commands) c.commands
   made_few S = let w = W S.p S.X S.shape S.holds in rw S.shape (start_short S.p S.X w.at made w.run)
 
-  module _ (p : Meaning) (X : SearchCorner p) (s : c ≡ shape_of p) (H : Holds-search p X before) where
+  module _ (p : Meaning) (X : SearchCorner p) (s : c ≡ shape_of p) (H : HoldsSearch p X before) where
     abbrev w : SearchingAt p X made ws
     w = W p X s H
 
-    pub search_over : Stopping-answer c ws None → Search-from p X ws (record { end = StartEnd.Ended; exchanges = made })
+    pub search_over : StoppingAnswer c ws None → SearchFrom p X ws (record { end = StartEnd.Ended; exchanges = made })
     search_over E = record { at = w.at; run = w.run; ended = (E p w.at s w.holds, w.holds) }
 
-    module _ (j : ℕ) (E : Stopping-answer c ws (Some j)) (ws' : List ℤ) where
+    module _ (j : ℕ) (E : StoppingAnswer c ws (Some j)) (ws' : List ℤ) where
       stopping : LeastStopping p w.at j
       stopping = E p w.at s w.holds
 
@@ -58,7 +58,7 @@ module _ (c : Shape) (before ws : List ℤ) (made : ℕ) (W : Searching c before
           let some = leaves.above in
           omega (arith, ints)
 
-      pub search_wide : EnterAnswer c j ws ws' OutOfWidth → Search-from p X ws' (record { end = StartEnd.OutOfWidth j; exchanges = made })
+      pub search_wide : EnterAnswer c j ws ws' OutOfWidth → SearchFrom p X ws' (record { end = StartEnd.OutOfWidth j; exchanges = made })
       search_wide A = let o = enters OutOfWidth A in record { at = w.at; run = w.run; ended = record { least = stopping; row = o.row; leaves = o.leaves; out = o.out } }
 
       pub searches_on : (l : ℕ) → EnterAnswer c j ws ws' (Across l) → SearchingAt p X (made + 1) ws'

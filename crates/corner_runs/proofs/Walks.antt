@@ -15,7 +15,7 @@ use Rattle.corner_words.specs.Enters.{EnteredAt, EnterAnswer}
 use Rattle.corner_words.specs.declared.enter.Entered.{Entered}
 use Rattle.corner_words.specs.declared.enter.Entered.TheVariants.{Across, NoRow, OutOfWidth}
 use Rattle.corner_words.proofs.Entering.{tableau_of}
-use Rattle.corner_runs.specs.Answers.{Holds-corner, Some-corner, Run-from, Run-answer}
+use Rattle.corner_runs.specs.Answers.{HoldsCorner, SomeCorner, RunFrom, RunAnswer}
 use Rattle.corner_runs.specs.SolveRuns.{LeastWilling, SolveRun, stands, goes, Settled, WithoutRow, BeyondWidth}
 use Rattle.corner_runs.specs.declared.exchanges.Exchange.{Exchange}
 use Rattle.corner_runs.specs.declared.run.End.TheVariants as End
@@ -28,11 +28,11 @@ pub record Walking (p : Meaning) (θ : List ℤ) (X : CornerOf p) (made room : �
   pub run : SolveRun p θ X exchanges at
   pub counted : made ≡ length exchanges
   pub noted : trail ≡ take room exchanges
-  pub holds : Holds-corner p at ws
+  pub holds : HoldsCorner p at ws
 
 -- It is so for any corner that the words held at first.
 abbrev pub Walks : Shape → List ℤ → List ℤ → ℕ → ℕ → List Exchange → List ℤ → Type 0
-Walks c θ before made room trail ws = (p : Meaning) (X : CornerOf p) → c ≡ shape_of p → Holds-corner p X before → Walking p θ X made room trail ws
+Walks c θ before made room trail ws = (p : Meaning) (X : CornerOf p) → c ≡ shape_of p → HoldsCorner p X before → Walking p θ X made room trail ws
 
 -- A trail that notes an exchange, unless it is full.
 abbrev pub Noted : ℕ → List Exchange → Exchange → List Exchange → Result Unit Exchange → Type 0
@@ -61,23 +61,23 @@ at_first c θ ws room trail e p X s H = record { exchanges = []; at = X; run = s
 
 module _ (c : Shape) (θ before ws : List ℤ) (made room : ℕ) (trail : List Exchange) (W : Walks c θ before made room trail ws) where
   -- The corner that the words hold, for what the next functions ask.
-  pub holding : Some-corner c before → Holding c ws
+  pub holding : SomeCorner c before → Holding c ws
   holding S = let w = W S.p S.X S.shape S.holds in record { p = S.p; n = limits S.p; a = column S.p; X = w.at; shape = S.shape; all = omega arith; few = omega arith; holds = w.holds }
 
-  pub made_short : Some-corner c before → made < choose c.limits c.commands
+  pub made_short : SomeCorner c before → made < choose c.limits c.commands
   made_short S =
       let w = W S.p S.X S.shape S.holds in
       let short : made < choose (limits S.p) (commands S.p) = rw w.counted (run_short S.p θ S.X w.run) in
       rw S.shape short
 
   -- The limit that left is one of the plant's.
-  pub left_known : Some-corner c before → (j : ℕ) (ws' : List ℤ) (l : ℕ) → EnterAnswer c j ws ws' (Across l) → l < c.limits
+  pub left_known : SomeCorner c before → (j : ℕ) (ws' : List ℤ) (l : ℕ) → EnterAnswer c j ws ws' (Across l) → l < c.limits
   left_known S j ws' l A =
       let w = W S.p S.X S.shape S.holds in
       let g = A S.p (limits S.p) (column S.p) w.at S.shape (omega arith) (omega arith) w.holds in
       rw (S.shape, g.left) (w.at.known g.row g.leaves.inside)
 
-  module _ (p : Meaning) (X : CornerOf p) (s : c ≡ shape_of p) (H : Holds-corner p X before) where
+  module _ (p : Meaning) (X : CornerOf p) (s : c ≡ shape_of p) (H : HoldsCorner p X before) where
     abbrev w : Walking p θ X made room trail ws
     w = W p X s H
 
@@ -89,7 +89,7 @@ module _ (c : Shape) (θ before ws : List ℤ) (made room : ℕ) (trail : List E
       least = λ i l. E.2 i l p (column p) w.at.β w.at.D w.at.U s (tableau_of p (limits p) (column p) w.at) w.holds.held;
     }
 
-    pub settled : EnteringAnswer c θ ws None → Run-from p θ X ws room trail (record { end = End.Settled; exchanges = made })
+    pub settled : EnteringAnswer c θ ws None → RunFrom p θ X ws room trail (record { end = End.Settled; exchanges = made })
     settled E = record {
       exchanges = w.exchanges;
       at = w.at;
@@ -103,7 +103,7 @@ module _ (c : Shape) (θ before ws : List ℤ) (made room : ℕ) (trail : List E
       enters : (e : Entered) → EnterAnswer c j ws ws' e → EnteredAt p (limits p) (column p) w.at j ws ws' e
       enters e A = A p (limits p) (column p) w.at s (omega arith) (omega arith) w.holds
 
-      pub without_row : EnterAnswer c j ws ws' NoRow → Run-from p θ X ws' room trail (record { end = End.NoRow j; exchanges = made })
+      pub without_row : EnterAnswer c j ws ws' NoRow → RunFrom p θ X ws' room trail (record { end = End.NoRow j; exchanges = made })
       without_row A =
           let (none, same) = enters NoRow A in
           record {
@@ -112,10 +112,10 @@ module _ (c : Shape) (θ before ws : List ℤ) (made room : ℕ) (trail : List E
             run = w.run;
             counted = w.counted;
             noted = w.noted;
-            ended = (record { least = least j E; no_row = none }, subst (Holds-corner p w.at) (sym same) w.holds);
+            ended = (record { least = least j E; no_row = none }, subst (HoldsCorner p w.at) (sym same) w.holds);
           }
 
-      pub beyond_width : EnterAnswer c j ws ws' OutOfWidth → Run-from p θ X ws' room trail (record { end = End.OutOfWidth j; exchanges = made })
+      pub beyond_width : EnterAnswer c j ws ws' OutOfWidth → RunFrom p θ X ws' room trail (record { end = End.OutOfWidth j; exchanges = made })
       beyond_width A =
           let o = enters OutOfWidth A in
           record {

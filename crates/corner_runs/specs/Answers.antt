@@ -11,74 +11,74 @@ use Rattle.corner_runs.specs.SolveRuns.{SolveRun, Settled, WithoutRow, BeyondWid
 use Rattle.corner_runs.specs.StartRuns.{LeastStopping, StartRun, StartBeyondWidth}
 use Rattle.corner_runs.specs.declared.exchanges.Exchange.{Exchange}
 use Rattle.corner_runs.specs.declared.run.End.{End}
-use Rattle.corner_runs.specs.declared.run.End.TheVariants.{Settled as At-settled, NoRow, OutOfWidth}
+use Rattle.corner_runs.specs.declared.run.End.TheVariants.{Settled as AtSettled, NoRow, OutOfWidth}
 use Rattle.corner_runs.specs.declared.run.Ran.{Ran}
 use Rattle.corner_runs.specs.declared.search.StartEnd.{StartEnd}
 use Rattle.corner_runs.specs.declared.search.StartEnd.TheVariants as start
 use Rattle.corner_runs.specs.declared.search.Searched.{Searched}
 
 -- The words hold the tableau of a corner of the plant.
-abbrev pub Holds-corner : (p : Meaning) → CornerOf p → List ℤ → Type 0
-Holds-corner p = Holds p (limits p) (column p)
+abbrev pub HoldsCorner : (p : Meaning) → CornerOf p → List ℤ → Type 0
+HoldsCorner p = Holds p (limits p) (column p)
 
 -- The words hold the tableau of a corner of the search.
-abbrev pub Holds-search : (p : Meaning) → SearchCorner p → List ℤ → Type 0
-Holds-search p = Holds p (limits p + commands p) (all_columns p)
+abbrev pub HoldsSearch : (p : Meaning) → SearchCorner p → List ℤ → Type 0
+HoldsSearch p = Holds p (limits p + commands p) (all_columns p)
 
 -- Some plant with these counts has a corner that the words hold.
-pub record Some-corner (c : Shape) (ws : List ℤ) : Type 0 where
+pub record SomeCorner (c : Shape) (ws : List ℤ) : Type 0 where
   pub p : Meaning
   pub X : CornerOf p
   pub shape : c ≡ shape_of p
-  pub holds : Holds-corner p X ws
+  pub holds : HoldsCorner p X ws
 
-pub record Some-search (c : Shape) (ws : List ℤ) : Type 0 where
+pub record SomeSearch (c : Shape) (ws : List ℤ) : Type 0 where
   pub p : Meaning
   pub X : SearchCorner p
   pub shape : c ≡ shape_of p
-  pub holds : Holds-search p X ws
+  pub holds : HoldsSearch p X ws
 
 -- How the run from X ended at Y. Limits count from 0. Out of width, nothing is said of the words.
-abbrev pub Ended-at : (p : Meaning) → List ℤ → CornerOf p → List ℤ → End → Type 0
-Ended-at p θ Y ws At-settled = Settled p θ Y × Holds-corner p Y ws
-Ended-at p θ Y ws (NoRow j) = WithoutRow p θ Y j × Holds-corner p Y ws
-Ended-at p θ Y ws (OutOfWidth j) = BeyondWidth p θ Y j
+abbrev pub EndedAt : (p : Meaning) → List ℤ → CornerOf p → List ℤ → End → Type 0
+EndedAt p θ Y ws AtSettled = Settled p θ Y × HoldsCorner p Y ws
+EndedAt p θ Y ws (NoRow j) = WithoutRow p θ Y j × HoldsCorner p Y ws
+EndedAt p θ Y ws (OutOfWidth j) = BeyondWidth p θ Y j
 
 -- The run from X: its exchanges, of which the trail keeps as many as it has room for, and its end.
-pub record Run-from (p : Meaning) (θ : List ℤ) (X : CornerOf p) (ws : List ℤ) (room : ℕ) (trail : List Exchange) (r : Ran) : Type 0 where
+pub record RunFrom (p : Meaning) (θ : List ℤ) (X : CornerOf p) (ws : List ℤ) (room : ℕ) (trail : List Exchange) (r : Ran) : Type 0 where
   pub exchanges : List Exchange
   pub at : CornerOf p
   pub run : SolveRun p θ X exchanges at
   pub counted : r.exchanges ≡ length exchanges
   pub noted : trail ≡ take room exchanges
-  pub ended : Ended-at p θ at ws r.end
+  pub ended : EndedAt p θ at ws r.end
 
 -- It is so for any corner that the words held.
-abbrev pub Run-answer : Shape → List ℤ → List ℤ → List ℤ → ℕ → List Exchange → Ran → Type 0
-Run-answer c θ before after room trail r = (p : Meaning) (X : CornerOf p) → c ≡ shape_of p → Holds-corner p X before → Run-from p θ X after room trail r
+abbrev pub RunAnswer : Shape → List ℤ → List ℤ → List ℤ → ℕ → List Exchange → Ran → Type 0
+RunAnswer c θ before after room trail r = (p : Meaning) (X : CornerOf p) → c ≡ shape_of p → HoldsCorner p X before → RunFrom p θ X after room trail r
 
 -- The number is a_j · Y.
-abbrev pub Along-answer : Shape → ℕ → List ℤ → ℤ → Type 0
-Along-answer c j ws z = (p : Meaning) (X : SearchCorner p) → c ≡ shape_of p → Holds-search p X ws → z ≡ dot (commands p) (column p j) (direction p X)
+abbrev pub AlongAnswer : Shape → ℕ → List ℤ → ℤ → Type 0
+AlongAnswer c j ws z = (p : Meaning) (X : SearchCorner p) → c ≡ shape_of p → HoldsSearch p X ws → z ≡ dot (commands p) (column p j) (direction p X)
 
 -- The least limit that stops Y, or that none does.
-abbrev pub Stopping-at : (p : Meaning) → SearchCorner p → Option ℕ → Type 0
-Stopping-at p X (Some j) = LeastStopping p X j
-Stopping-at p X None = SearchEnded p X
+abbrev pub StoppingAt : (p : Meaning) → SearchCorner p → Option ℕ → Type 0
+StoppingAt p X (Some j) = LeastStopping p X j
+StoppingAt p X None = SearchEnded p X
 
-abbrev pub Stopping-answer : Shape → List ℤ → Option ℕ → Type 0
-Stopping-answer c ws r = (p : Meaning) (X : SearchCorner p) → c ≡ shape_of p → Holds-search p X ws → Stopping-at p X r
+abbrev pub StoppingAnswer : Shape → List ℤ → Option ℕ → Type 0
+StoppingAnswer c ws r = (p : Meaning) (X : SearchCorner p) → c ≡ shape_of p → HoldsSearch p X ws → StoppingAt p X r
 
 -- How the search ended at Y.
-abbrev pub Start-ended-at : (p : Meaning) → SearchCorner p → List ℤ → StartEnd → Type 0
-Start-ended-at p Y ws start.Ended = SearchEnded p Y × Holds-search p Y ws
-Start-ended-at p Y ws (start.OutOfWidth j) = StartBeyondWidth p Y j
+abbrev pub StartEndedAt : (p : Meaning) → SearchCorner p → List ℤ → StartEnd → Type 0
+StartEndedAt p Y ws start.Ended = SearchEnded p Y × HoldsSearch p Y ws
+StartEndedAt p Y ws (start.OutOfWidth j) = StartBeyondWidth p Y j
 
 -- The search from X.
-pub record Search-from (p : Meaning) (X : SearchCorner p) (ws : List ℤ) (r : Searched) : Type 0 where
+pub record SearchFrom (p : Meaning) (X : SearchCorner p) (ws : List ℤ) (r : Searched) : Type 0 where
   pub at : SearchCorner p
   pub run : StartRun p X r.exchanges at
-  pub ended : Start-ended-at p at ws r.end
+  pub ended : StartEndedAt p at ws r.end
 
-abbrev pub Search-answer : Shape → List ℤ → List ℤ → Searched → Type 0
-Search-answer c before after r = (p : Meaning) (X : SearchCorner p) → c ≡ shape_of p → Holds-search p X before → Search-from p X after r
+abbrev pub SearchAnswer : Shape → List ℤ → List ℤ → Searched → Type 0
+SearchAnswer c before after r = (p : Meaning) (X : SearchCorner p) → c ≡ shape_of p → HoldsSearch p X before → SearchFrom p X after r

@@ -3,7 +3,7 @@ ghost use Rattle.std.specs.Prelude.{◌≡◌, [], length};
 ghost use Rattle.exact.specs.Bounds.{AllInWidth};
 ghost use Rattle.words.specs.Layout.{InBounds};
 ghost use Rattle.bounded_list.specs.Contents.{contents, room as room_of};
-ghost use Rattle.corner_runs.specs.Answers.{Some-corner, Run-answer};
+ghost use Rattle.corner_runs.specs.Answers.{SomeCorner, RunAnswer};
 
 use crate::exchanges::Exchange;
 use bounded_list::List;
@@ -33,10 +33,10 @@ pub struct Ran {
 pub fn run(words: &mut [i64], shape: Shape, readings: &[i64], trail: &mut List<'_, Exchange>) -> Ran
     requires counts { InBounds shape }
     requires readings { (length readings.now ≡ shape.readings) × AllInWidth readings.now }
-    requires corner { Some-corner shape words.old }
+    requires corner { SomeCorner shape words.old }
     requires empty { contents trail.old ≡ [] }
     ensures room { room_of trail.new ≡ room_of trail.old }
-    ensures run { Run-answer shape readings.now words.old words.new (room_of trail.old) (contents trail.new) result }
+    ensures run { RunAnswer shape readings.now words.old words.new (room_of trail.old) (contents trail.new) result }
 {
     let mut exchanges = 0;
     loop {

@@ -1,6 +1,6 @@
 // The search for a first corner.
 ghost use Rattle.words.specs.Layout.{InBounds};
-ghost use Rattle.corner_runs.specs.Answers.{Some-search, Search-answer};
+ghost use Rattle.corner_runs.specs.Answers.{SomeSearch, SearchAnswer};
 
 use crate::stopping::least_stopping;
 use corner_words::enter::{Entered, enter};
@@ -25,8 +25,8 @@ pub struct Searched {
 // Lets the least limit that stops the direction Y enter until none does.
 pub fn search(words: &mut [i64], shape: Shape) -> Searched
     requires counts { InBounds shape }
-    requires corner { Some-search shape words.old }
-    ensures { Search-answer shape words.old words.new result }
+    requires corner { SomeSearch shape words.old }
+    ensures { SearchAnswer shape words.old words.new result }
 {
     let mut exchanges = 0;
     loop {

@@ -1,7 +1,7 @@
 // Which limits stop the direction Y of the search, the sum of the rows of artificial limits.
 ghost use Rattle.std.specs.Prelude.{◌<◌};
 ghost use Rattle.words.specs.Layout.{InBounds};
-ghost use Rattle.corner_runs.specs.Answers.{Some-search, Stopping-answer, Along-answer};
+ghost use Rattle.corner_runs.specs.Answers.{SomeSearch, StoppingAnswer, AlongAnswer};
 
 use tableau_words::artificial::artificial_sum;
 use words::counts::Shape;
@@ -10,8 +10,8 @@ use words::counts::Shape;
 fn along(words: &[i64], shape: Shape, limit: usize) -> i64
     requires counts { InBounds shape }
     requires place { limit < shape.limits }
-    requires corner { Some-search shape words.now }
-    ensures { Along-answer shape limit words.now result }
+    requires corner { SomeSearch shape words.now }
+    ensures { AlongAnswer shape limit words.now result }
 {
     artificial_sum(words, shape, 1 + shape.commands + limit)
 }
@@ -19,8 +19,8 @@ fn along(words: &[i64], shape: Shape, limit: usize) -> i64
 // The least limit, from 0, with a_j · Y > 0.
 pub fn least_stopping(words: &[i64], shape: Shape) -> Option<usize>
     requires counts { InBounds shape }
-    requires corner { Some-search shape words.now }
-    ensures { Stopping-answer shape words.now result }
+    requires corner { SomeSearch shape words.now }
+    ensures { StoppingAnswer shape words.now result }
 {
     for limit in 0..shape.limits {
         if along(words, shape, limit) > 0 {

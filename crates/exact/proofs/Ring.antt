@@ -35,7 +35,7 @@ pub *-left-comm : (a b c : ℤ) → a *ℤ (b *ℤ c) ≡ b *ℤ (a *ℤ c)
 pub ruleset expand = (+-*ʳ, +-*ˡ, neg-*ʳ, neg-*ˡ, neg_ℤ-+ℤ, neg_ℤ-neg_ℤ, *-assoc, *ℤ_comm, *-left-comm)
 
 pub mul_pos : (a b : ℤ) → pos 0 <ℤ a → pos 0 <ℤ b → pos 0 <ℤ (a *ℤ b)
-mul_pos (pos m) (pos n) h k = let p : 0 < m = omega (arith, lin) in let q : 0 < n = omega (arith, lin) in omega (arith, lin, NatL.mul_pos p q)
+mul_pos (pos m) (pos n) h k = let p : 0 < m = omega (arith, lin) in let q : 0 < n = omega (arith, lin) in omega (arith, lin, NatL.mul-pos p q)
 mul_pos (pos m) (negsuc n) h k = absurd (omega (arith, lin))
 mul_pos (negsuc m) b h k = absurd (omega (arith, lin))
 

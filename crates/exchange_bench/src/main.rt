@@ -1,5 +1,7 @@
 // Makes many exchanges at the greatest counts, each from a fresh copy of a corner's words, and prints what came of them. The time that
 // they took goes to standard error. The argument says how many of each sort.
+#![tactic(auto)]
+
 mod corners;
 mod repeats;
 

@@ -1,4 +1,6 @@
 // The tableau with which the search for a first corner begins, put into words.
+#![tactic(auto)]
+
 pub mod fill;
 mod numbers;
 #[cfg(test)]

@@ -1,4 +1,6 @@
 // Reads a plant, its ranges and readings from standard input, grows the map of the plant, and prints the best command for each reading.
+#![tactic(auto)]
+
 ghost use Rattle.std.specs.Prelude.{◌≤◌, length};
 ghost use Rattle.words.specs.Bounds.{most_commands};
 

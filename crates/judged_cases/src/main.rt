@@ -1,5 +1,7 @@
 // Judges many inputs, one after another, and prints for each the line that the program prints for it.
 // Standard input has for each case a word that counts its bytes, lowest byte first, and then the bytes.
+#![tactic(auto)]
+
 use anyhow::anyhow;
 use input::bytes::{WORD_BYTES, words_from};
 use input::judge::judge;

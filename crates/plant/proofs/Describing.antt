@@ -11,7 +11,7 @@ use Rattle.words.specs.Bounds.{Value, largest_value, most_commands, most_limits,
 use Rattle.words.specs.Words.{kind_bits, bits_of_payload, payload, IsWord}
 use Rattle.words.specs.Kinds.{code}
 use Rattle.words.specs.Layout.{shape_in, spare_in, InBounds, width, limit_place, close_place, column_kind, due}
-use Rattle.words.specs.Faults.{head_fits, value_fits, payload_fault, word_fault, unless, fault, Laid_out}
+use Rattle.words.specs.Faults.{head_fits, value_fits, payload_fault, word_fault, unless, fault, LaidOut}
 use Rattle.words.specs.Faults as faults
 use Rattle.words.proofs.Places.{same_shape, due_gain, due_limit, due_close}
 use Rattle.words.specs.declared.counts.Shape.{Shape}
@@ -154,7 +154,7 @@ module _ (ws : List ℕ) (p : Meaning) (D : Describes ws p) where
       (cases_lt k (1 + c.commands)))
       (cases_eq k 0)
 
-  pub described_is_laid_out : Laid_out ws
+  pub described_is_laid_out : LaidOut ws
   unfolding Right
   described_is_laid_out = record {
     long = D.long ∙ ap (λ x. close_place x + 1) (sym same_counts);

@@ -7,7 +7,7 @@ use Rattle.std.proofs.lemmas.Nat.{mul-le, mod-pow-add}
 use Rattle.words.specs.Words.{kind_bits, bits_of_payload, payload, IsWord}
 use Rattle.words.specs.Kinds.{code}
 use Rattle.words.specs.Layout.{shape_in, spare_in, InBounds, HeadFits, width, limit_place, close_place, column_kind, due}
-use Rattle.words.specs.Faults.{value_fits, payload_fault, word_fault, unless, fault, Laid_out}
+use Rattle.words.specs.Faults.{value_fits, payload_fault, word_fault, unless, fault, LaidOut}
 use Rattle.words.specs.Faults as faults
 use Rattle.words.proofs.Places.{passed, due_gain, due_limit, due_close, head_right, head_bounds}
 use Rattle.words.specs.declared.counts.Shape.{Shape}
@@ -44,7 +44,7 @@ close_small c b = omega (arith, mul-le c.limits (width c) 16 8 b.3 (omega (arith
 pub head_bits : (w : ℕ) → spare_in w ≡ 0 → bits_of_payload w ≡ head_number (shape_in w)
 head_bits w e = omega (arith, mod-pow-add w 4 24, mod-pow-add w 8 16, mod-pow-add w 8 8)
 
-module _ (ws : List ℕ) (L : Laid_out ws) where
+module _ (ws : List ℕ) (L : LaidOut ws) where
   abbrev c : Shape
   c = faults.shape_of ws
 

@@ -1,4 +1,6 @@
 // Layer 2: what a plant is, and two sorts of plant.
+#![tactic(auto)]
+
 pub mod interface;
 pub mod laws;
 pub mod load;

@@ -1,4 +1,6 @@
 // The examples of docs/words.md and docs/plants.md, as tests.
+#![tactic(auto)]
+
 #[cfg(test)]
 mod tests;
 #[cfg(test)]

@@ -1,4 +1,6 @@
 // The rows of a matrix that lies flat in one slice, rewritten in place in an exchange of an exact simplex tableau.
+#![tactic(auto)]
+
 pub mod exchange;
 pub mod guard;
 pub mod matrix;

@@ -1,2 +1,4 @@
 // Layer 3: bases, tableaus, corners and exchanges.
+#![tactic(auto)]
+
 pub mod theorems;

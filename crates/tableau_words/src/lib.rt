@@ -1,4 +1,6 @@
 // The working tableau: the tableau of a basis in words.
+#![tactic(auto)]
+
 pub mod artificial;
 pub mod exchange;
 pub mod leaving;

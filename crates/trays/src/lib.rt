@@ -1,4 +1,6 @@
 // What a call lays on its caller's tray, from the words of a tableau.
+#![tactic(auto)]
+
 pub mod command;
 pub mod direction;
 #[cfg(test)]

@@ -2,7 +2,7 @@
 use Rattle.std.proofs.Common.{◌≡◌, ℕ, ◌+◌, ◌-◌, ◌<◌, ◌≤◌, true, false, List, length, take, drop, sym, refl, ap, ◌∙◌, subst, arith, length-drop, length-take}
 use Rattle.std.proofs.lemmas.Bool.{eqb-true}
 use Rattle.words.specs.Layout.{width, limit_place, close_place}
-use Rattle.words.specs.Faults.{shape_of, RightBefore, Laid_out, Faulty, too_long}
+use Rattle.words.specs.Faults.{shape_of, RightBefore, LaidOut, Faulty, too_long}
 use Rattle.words.specs.Steps.{opens, done, span, shape_told, Stands}
 use Rattle.words.specs.Parts.{part_of}
 use Rattle.words.proofs.Places.{same_shape, limits_left, before_close}
@@ -35,7 +35,7 @@ some_words ws k (Done c) S n = absurd (let z : ◌≡◌ {A = ℕ} 0 1 = cc in o
 
 module _ (ws : List ℕ) (k : ℕ) where
   -- Before the close is read, words are missing if they are to be a plant's.
-  pub unread : (s : State) → Stands ws k s → done s ≡ false → Laid_out ws → k < length ws
+  pub unread : (s : State) → Stands ws k s → done s ≡ false → LaidOut ws → k < length ws
   unread s S n l = omega (arith, before_close ws k s S n 0 (some_words ws k s S n), l.long)
 
   pub longer : (s : State) → Stands ws k s → done s ≡ false → k < k + span s
@@ -45,7 +45,7 @@ module _ (ws : List ℕ) (k : ℕ) where
   at_end s c e S = let T : Stands ws k (Done c) = subst (Stands ws k) e S in T.placed ∙ ap (λ x. close_place x + 1) (same_shape c (shape_of ws) T.told)
 
   -- Once the close is read and no word follows, the words are laid out as a plant's.
-  pub laid_out : (s : State) (c : Shape) → s ≡ Done c → Stands ws k s → k ≡ length ws → Laid_out ws
+  pub laid_out : (s : State) (c : Shape) → s ≡ Done c → Stands ws k s → k ≡ length ws → LaidOut ws
   laid_out s c e S l = record { long = omega (arith, at_end s c e S); right = rw (← l) S.right }
 
   pub follows_close : (s : State) (c : Shape) → s ≡ Done c → Stands ws k s → k < length ws → Faulty ws (CloseRefused k)

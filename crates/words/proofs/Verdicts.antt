@@ -1,7 +1,7 @@
 -- Words earn one refusal, or none and then they are laid out as a plant's.
 use Rattle.std.proofs.Common.{◌≡◌, ℕ, ◌+◌, ◌<◌, ◌≤◌, true, false, List, length, is_some, Some, None, Option, sym, refl, ap, ◌∙◌, ⊎_elim, arith}
 use Rattle.std.proofs.lemmas.Bool.{cases_order}
-use Rattle.words.specs.Faults.{fault, RightBefore, Laid_out, Faulty, wrong_word, too_short, too_long}
+use Rattle.words.specs.Faults.{fault, RightBefore, LaidOut, Faulty, wrong_word, too_short, too_long}
 use Rattle.words.specs.declared.refusal.Refusal.{Refusal}
 use Rattle.words.specs.declared.refusal.Refusal.TheVariants.{Short, Close}
 
@@ -27,7 +27,7 @@ module _ (ws : List ℕ) where
   one_refusal (Close k) (Short l) (too_long a b r) (too_short c d s) = absurd (omega arith)
   one_refusal (Close k) (Close l) (too_long a b r) (too_long c d s) = ap Close (a ∙ sym c)
 
-  pub not_laid_out : (e : Refusal) → Faulty ws e → Laid_out ws → ⊥
+  pub not_laid_out : (e : Refusal) → Faulty ws e → LaidOut ws → ⊥
   not_laid_out e (wrong_word k a b r p) l = faulty_here (fault ws k) e p (l.right k a)
   not_laid_out (Short k) (too_short a b r) l = omega (arith, l.long)
   not_laid_out (Close k) (too_long a b r) l = omega (arith, l.long)

@@ -53,7 +53,7 @@ module _ (ws : List ℕ) where
   RightBefore k = (i : ℕ) → i < k → is_some (fault i) ≡ false
 
   -- The words are laid out as those of a plant, from the head to the close.
-  pub record Laid_out : Type 0 where
+  pub record LaidOut : Type 0 where
     pub long : length ws ≡ close_place shape_of + 1
     pub right : RightBefore (length ws)
 
@@ -69,4 +69,4 @@ abbrev pub OneRefusal : Type 0
 OneRefusal = (ws : List ℕ) (e f : Refusal) → Faulty ws e → Faulty ws f → e ≡ f
 
 abbrev pub RefusedOrLaidOut : Type 0
-RefusedOrLaidOut = (ws : List ℕ) (e : Refusal) → Faulty ws e → Laid_out ws → ⊥
+RefusedOrLaidOut = (ws : List ℕ) (e : Refusal) → Faulty ws e → LaidOut ws → ⊥

@@ -1,7 +1,7 @@
 -- The parts of a plant's words: head, gains, each limit and close.
 use Rattle.std.specs.Prelude.{◌≡◌, ℕ, ◌+◌, ◌-◌, ◌<◌, List, length, take, drop, Some, None, Ok, Err, Option, Result}
 use Rattle.words.specs.Layout.{width, limit_place, close_place}
-use Rattle.words.specs.Faults.{shape_of, RightBefore, Laid_out, Faulty}
+use Rattle.words.specs.Faults.{shape_of, RightBefore, LaidOut, Faulty}
 use Rattle.words.specs.declared.refusal.Refusal.{Refusal}
 use Rattle.words.specs.declared.counts.Counts.{Counts}
 use Rattle.words.specs.declared.part.Part.{Part}
@@ -29,10 +29,10 @@ words_in (Close s p) = length s.now
 -- nothing once the whole is read; or the refusal that the words earn, and then it stays.
 abbrev pub Handed : List ℕ → ℕ → ℕ → Result (Option Part) Refusal → Type 0
 Handed ws k l (Ok (Some part)) = PartAt ws k part × (l ≡ k + words_in part) × (k < l) × RightBefore ws l
-Handed ws k l (Ok None) = Laid_out ws × (k ≡ length ws) × (l ≡ k)
+Handed ws k l (Ok None) = LaidOut ws × (k ≡ length ws) × (l ≡ k)
 Handed ws k l (Err e) = Faulty ws e × (l ≡ k)
 
 -- What a reader at place k knows of the whole: the counts, once it has read all the words and they are laid out as a plant's.
 abbrev pub ReadWhole : List ℕ → ℕ → Option Counts → Type 0
-ReadWhole ws k (Some c) = Laid_out ws × (k ≡ length ws) × (c.shape ≡ shape_of ws)
-ReadWhole ws k None = Laid_out ws → k < length ws
+ReadWhole ws k (Some c) = LaidOut ws × (k ≡ length ws) × (c.shape ≡ shape_of ws)
+ReadWhole ws k None = LaidOut ws → k < length ws

@@ -1,4 +1,6 @@
 // Layer 1: the words of a plant, and the refusals of the whole project.
+#![tactic(auto)]
+
 pub mod bounds;
 pub mod counts;
 pub mod head;

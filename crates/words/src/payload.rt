@@ -1,6 +1,6 @@
 // The two fields of a word: a kind in the top four bits, a signed number in the 28 below.
 ghost use Rattle.std.specs.Prelude.{◌≡◌, ◌^◌, ◌<◌, MatchOption};
-ghost use Rattle.words.specs.Words.{kind_bits, payload as payload-of, bits_of_payload as low_bits, signed, HeldInPayload, IsWord};
+ghost use Rattle.words.specs.Words.{kind_bits, payload as payload_of, bits_of_payload as low_bits, signed, HeldInPayload, IsWord};
 
 const PAYLOAD_BITS: u32 = 28;
 
@@ -31,7 +31,7 @@ pub fn payload_bits(word: u32) -> u32
 
 // The payload of a word, a signed number.
 pub fn payload(word: u32) -> i32
-    ensures { result ≡ payload-of word }
+    ensures { result ≡ payload_of word }
 {
     let low = payload_bits(word);
     if low < SIGN {

@@ -1,6 +1,6 @@
 // Every way in which a call can say no.
 ghost use Rattle.std.specs.Prelude.{◌≡◌};
-ghost use Rattle.words.specs.Refusals.{number_of, layer_of, level as level-of, place_of};
+ghost use Rattle.words.specs.Refusals.{number_of, layer_of, level as level_of, place_of};
 
 // The layer that a refusal comes from, numbered from the lowest up.
 #[derive(Clone, Copy, PartialEq, Eq, Debug)]
@@ -55,7 +55,7 @@ pub enum Refusal {
 
 impl Layer {
     pub fn level(self) -> u32
-        ensures { result ≡ level-of self }
+        ensures { result ≡ level_of self }
     {
         self as u32
     }

@@ -9,10 +9,10 @@ use Rattle.words.specs.declared.counts.Shape.{Shape}
 use Rattle.tableau_words.specs.Layout.{size}
 use Rattle.corner_words.specs.Corners.{Holding}
 use Rattle.corner_words.specs.Reads.{OwnLimits}
-use Rattle.corner_runs.specs.Answers.{Some-corner}
+use Rattle.corner_runs.specs.Answers.{SomeCorner}
 use Rattle.trays.specs.Weights.{RowsKnown}
 
-module _ (c : Shape) (ws : List ℤ) (S : Some-corner c ws) where
+module _ (c : Shape) (ws : List ℤ) (S : SomeCorner c ws) where
   pub corner_holding : Holding c ws
   corner_holding = record { p = S.p; n = limits S.p; a = column S.p; X = S.X; shape = S.shape; all = omega arith; few = omega arith; holds = S.holds }
 

@@ -11,7 +11,7 @@ use Rattle.corner_words.specs.Enters.{GoneAcross, EnteredAt, EnterAnswer}
 use Rattle.corner_words.specs.Reads.{LimitAnswer}
 use Rattle.corner_words.specs.declared.enter.Entered.{Entered}
 use Rattle.corner_words.specs.declared.enter.Entered.TheVariants.{Across, NoRow}
-use Rattle.corner_runs.specs.Answers.{Holds-corner, Some-corner}
+use Rattle.corner_runs.specs.Answers.{HoldsCorner, SomeCorner}
 use Rattle.working_tableau.specs.Crossings.{LeftAnswer, SomeRow, CrossAnswer}
 
 module _ (c : Shape) (j : ℕ) (ws : List ℤ) where
@@ -23,10 +23,10 @@ module _ (c : Shape) (j : ℕ) (ws : List ℤ) where
 
   -- What became of the entering limit, for a corner of the plant.
   module _ (after : List ℤ) where
-    entered : (e : Entered) → EnterAnswer c j ws after e → (p : Meaning) (X : CornerOf p) → c ≡ shape_of p → Holds-corner p X ws → EnteredAt p (limits p) (column p) X j ws after e
+    entered : (e : Entered) → EnterAnswer c j ws after e → (p : Meaning) (X : CornerOf p) → c ≡ shape_of p → HoldsCorner p X ws → EnteredAt p (limits p) (column p) X j ws after e
     entered e A p X s H = A p (limits p) (column p) X s (omega arith) (omega arith) H
 
-    pub never_without_row : Some-corner c ws → SomeRow c j ws → EnterAnswer c j ws after NoRow → ⊥
+    pub never_without_row : SomeCorner c ws → SomeRow c j ws → EnterAnswer c j ws after NoRow → ⊥
     never_without_row S R A =
         let (q, leaves) = R S.p S.X S.shape S.holds in
         let none = (entered NoRow A S.p S.X S.shape S.holds).0 q leaves.inside in
@@ -41,7 +41,7 @@ module _ (c : Shape) (j : ℕ) (ws : List ℤ) where
 
   -- The limit that leaves is one of the plant's, and its row leaves.
   module _ (l : ℕ) (L : LeftAnswer c j ws (Some l)) where
-    pub left_known : Some-corner c ws → l < c.limits
+    pub left_known : SomeCorner c ws → l < c.limits
     left_known S = let (q, leaves, e) = L S.p S.X S.shape S.holds in rw (S.shape, e) (S.X.known q leaves.inside)
 
     pub row_left : SomeRow c j ws

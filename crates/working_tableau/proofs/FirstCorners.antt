@@ -16,7 +16,7 @@ use Rattle.tableau_words.specs.Held.{Held, basis_row, reading_row}
 use Rattle.tableau_words.specs.Layout.{row_width}
 use Rattle.tableau_words.proofs.Rewritten.{by_column}
 use Rattle.corner_words.specs.Reads.{OwnLimits}
-use Rattle.corner_runs.specs.Answers.{Holds-corner, Holds-search, Some-search, Start-ended-at, Search-from, Search-answer}
+use Rattle.corner_runs.specs.Answers.{HoldsCorner, HoldsSearch, SomeSearch, StartEndedAt, SearchFrom, SearchAnswer}
 use Rattle.corner_runs.specs.declared.search.StartEnd.{StartEnd}
 use Rattle.corner_runs.specs.declared.search.StartEnd.TheVariants.{Ended, OutOfWidth}
 use Rattle.corner_runs.specs.declared.search.Searched.{Searched}
@@ -69,14 +69,14 @@ module _ (p : Meaning) (β : ℕ → ℕ) (D : ℤ) (U : ℕ → ℕ → ℤ) wh
   }
 
 -- A corner of the search whose rows all belong to limits of the plant is a corner of the plant, in the same words.
-module _ (p : Meaning) (Y : SearchCorner p) (ws : List ℤ) (H : Holds-search p Y ws) where
+module _ (p : Meaning) (Y : SearchCorner p) (ws : List ℤ) (H : HoldsSearch p Y ws) where
   limits_known : OwnLimits (shape_of p) ws → (r : ℕ) → r < commands p → Y.β r < limits p
   limits_known own r l = let h : pos (Y.β r) <ℤ pos (limits p) = subst (λ z. z <ℤ pos (limits p)) (H.held.limits r l) (own r l) in omega (arith, ints)
 
-  pub own_corner : OwnLimits (shape_of p) ws → (X : CornerOf p) × SameBasis p X Y × Holds-corner p X ws
+  pub own_corner : OwnLimits (shape_of p) ws → (X : CornerOf p) × SameBasis p X Y × HoldsCorner p X ws
   own_corner own = by (true_limits p Y (limits_known own))
     where
-      by : (C : CornerOf p) × (C.β ≡ Y.β) × (C.D ≡ Y.D) × (C.U ≡ Y.U) → (X : CornerOf p) × SameBasis p X Y × Holds-corner p X ws
+      by : (C : CornerOf p) × (C.β ≡ Y.β) × (C.D ≡ Y.D) × (C.U ≡ Y.U) → (X : CornerOf p) × SameBasis p X Y × HoldsCorner p X ws
       by (C, eβ, eD, eU) =
           let Q = λ (β : ℕ → ℕ) (D : ℤ) (U : ℕ → ℕ → ℤ). Held p (column p) β D U ws × TableauInWidth p (limits p) (column p) β D U in
           let q : Q Y.β Y.D Y.U = (own_held p Y.β Y.D Y.U ws H.held, own_width p Y.β Y.D Y.U H.in_width) in
@@ -88,27 +88,27 @@ module _ (p : Meaning) (Y : SearchCorner p) (ws : List ℤ) (H : Holds-search p 
 
 module _ (c : Shape) (p : Meaning) (s : c ≡ shape_of p) (ws : List ℤ) where
   -- The first corner of the search, for what the search asks.
-  pub first_kept : HoldsFirst p ws → Some-search c ws
+  pub first_kept : HoldsFirst p ws → SomeSearch c ws
   first_kept F = record { p = p; X = F.corner; shape = s; holds = record { held = F.held; in_width = F.in_width } }
 
-  module _ (F : HoldsFirst p ws) (after : List ℤ) (r : Searched) (A : Search-answer c ws after r) where
-    searched : Search-from p F.corner after r
+  module _ (F : HoldsFirst p ws) (after : List ℤ) (r : Searched) (A : SearchAnswer c ws after r) where
+    searched : SearchFrom p F.corner after r
     searched = A p F.corner s (record { held = F.held; in_width = F.in_width })
 
-    kept : (Y : SearchCorner p) (e : StartEnd) → Start-ended-at p Y after e → KeptSearch c after e
+    kept : (Y : SearchCorner p) (e : StartEnd) → StartEndedAt p Y after e → KeptSearch c after e
     kept Y Ended E = record { p = p; X = Y; shape = s; holds = E.1 }
     kept Y (OutOfWidth j) E = rw s E.least.known
 
     pub search_kept : KeptSearch c after r.end
     search_kept = kept searched.at r.end searched.ended
 
-    there : (Y : SearchCorner p) (e : StartEnd) → Start-ended-at p Y after e → SearchUnless p Y after e
+    there : (Y : SearchCorner p) (e : StartEnd) → StartEndedAt p Y after e → SearchUnless p Y after e
     there Y Ended E = E.1
     there Y (OutOfWidth j) E = tt
 
     -- The search, its end and what was told, together.
     module _ (tray tray' : List ℤ) where
-      told : (x : Result Started Refusal) (Y : SearchCorner p) → SearchTo p r.exchanges Y → (e : StartEnd) → Start-ended-at p Y after e → StartConcluded p Y after tray tray' r.exchanges x e → FirstCorner p after tray tray' x
+      told : (x : Result Started Refusal) (Y : SearchCorner p) → SearchTo p r.exchanges Y → (e : StartEnd) → StartEndedAt p Y after e → StartConcluded p Y after tray tray' r.exchanges x e → FirstCorner p after tray tray' x
       told x Y run Ended E (unbounded left laid) = no_best r.exchanges Y run E.0 left laid
       told x Y run Ended E (corner {a} X same holds mask made untouched) = found Y X (subst (λ k. SearchTo p k Y) (sym made) run) E.0 same holds mask untouched
       told x Y run (OutOfWidth j) E (is, untouched) = subst (FirstCorner p after tray tray') (sym is) (wide r.exchanges j Y run E refl untouched)

@@ -7,7 +7,7 @@ use Rattle.tableau.specs.Runs.{Leaves, HasNoRow}
 use Rattle.words.specs.declared.counts.Shape.{Shape}
 use Rattle.tableau_words.specs.Layout.{size, most_size}
 use Rattle.corner_words.specs.Enters.{GoneAcross, OutOfWidthAt}
-use Rattle.corner_runs.specs.Answers.{Holds-corner}
+use Rattle.corner_runs.specs.Answers.{HoldsCorner}
 
 -- The limit that leaves when limit j enters at X, or that no row can leave.
 abbrev pub LeftAt : (p : Meaning) → CornerOf p → ℕ → Option ℕ → Type 0
@@ -16,11 +16,11 @@ LeftAt p X j None = HasNoRow p X j
 
 -- It is so at any corner that the words hold.
 abbrev pub LeftAnswer : Shape → ℕ → List ℤ → Option ℕ → Type 0
-LeftAnswer c j ws r = (p : Meaning) (X : CornerOf p) → c ≡ shape_of p → Holds-corner p X ws → LeftAt p X j r
+LeftAnswer c j ws r = (p : Meaning) (X : CornerOf p) → c ≡ shape_of p → HoldsCorner p X ws → LeftAt p X j r
 
 -- Some row leaves when limit j enters.
 abbrev pub SomeRow : Shape → ℕ → List ℤ → Type 0
-SomeRow c j ws = (p : Meaning) (X : CornerOf p) → c ≡ shape_of p → Holds-corner p X ws → (q : ℕ) × Leaves p X j q
+SomeRow c j ws = (p : Meaning) (X : CornerOf p) → c ≡ shape_of p → HoldsCorner p X ws → (q : ℕ) × Leaves p X j q
 
 -- The words that begin with the tableau of the corner across, or that this corner is out of width.
 abbrev pub CrossedAt : (p : Meaning) → CornerOf p → ℕ → Option (List ℤ) → Type 0
@@ -28,4 +28,4 @@ CrossedAt p X j (Some ws) = (length ws ≡ most_size) × ((l : ℕ) × GoneAcros
 CrossedAt p X j None = OutOfWidthAt p (limits p) (column p) X j
 
 abbrev pub CrossAnswer : Shape → ℕ → List ℤ → Option (List ℤ) → Type 0
-CrossAnswer c j ws r = (p : Meaning) (X : CornerOf p) → c ≡ shape_of p → Holds-corner p X ws → CrossedAt p X j r
+CrossAnswer c j ws r = (p : Meaning) (X : CornerOf p) → c ≡ shape_of p → HoldsCorner p X ws → CrossedAt p X j r

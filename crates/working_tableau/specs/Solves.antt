@@ -7,9 +7,9 @@ use Rattle.words.specs.declared.counts.Shape.{Shape}
 use Rattle.words.specs.declared.refusal.Refusal.{Refusal}
 use Rattle.words.specs.declared.refusal.Refusal.TheVariants.{Width, NoCommand}
 use Rattle.words.specs.declared.refusal.Shown.TheVariants.{ByLimit}
-use Rattle.corner_runs.specs.Answers.{Holds-corner, Some-corner}
+use Rattle.corner_runs.specs.Answers.{HoldsCorner, SomeCorner}
 use Rattle.corner_runs.specs.declared.run.End.{End}
-use Rattle.corner_runs.specs.declared.run.End.TheVariants.{Settled as At-settled, NoRow, OutOfWidth}
+use Rattle.corner_runs.specs.declared.run.End.TheVariants.{Settled as AtSettled, NoRow, OutOfWidth}
 use Rattle.corner_runs.specs.declared.run.Ran.{Ran}
 use Rattle.tableau.specs.Runs.{InBasis}
 use Rattle.corner_runs.specs.SolveRuns.{SolveRun, Settled, WithoutRow, BeyondWidth}
@@ -20,19 +20,19 @@ use Rattle.map_steps.specs.declared.reply.Solved.{Solved}
 
 -- Unless the run ended out of width, the words hold a corner; the limit is one of the plant's.
 abbrev pub KeptCorner : Shape → List ℤ → End → Type 0
-KeptCorner c ws At-settled = Some-corner c ws
-KeptCorner c ws (NoRow j) = Some-corner c ws × (j < c.limits)
+KeptCorner c ws AtSettled = SomeCorner c ws
+KeptCorner c ws (NoRow j) = SomeCorner c ws × (j < c.limits)
 KeptCorner c ws (OutOfWidth j) = j < c.limits
 
 -- Unless the run ended out of width, the words hold the corner Y.
 abbrev pub HoldsUnless : (p : Meaning) → CornerOf p → List ℤ → End → Type 0
-HoldsUnless p Y ws At-settled = Holds-corner p Y ws
-HoldsUnless p Y ws (NoRow j) = Holds-corner p Y ws
+HoldsUnless p Y ws AtSettled = HoldsCorner p Y ws
+HoldsUnless p Y ws (NoRow j) = HoldsCorner p Y ws
 HoldsUnless p Y ws (OutOfWidth j) = Unit {0}
 
 -- What the end of a run at the corner Y is told as, and what is laid on the tray.
 abbrev pub Concluded : (p : Meaning) → List ℤ → CornerOf p → List ℤ → List ℤ → ℕ → Result Solved Refusal → End → Type 0
-Concluded p θ Y tray tray' made x At-settled = (a : Solved) × (x ≡ Ok a) × (a.mask ≡ mask_of p Y) × (a.exchanges ≡ made) × ((xs : List ℤ) × Commands p Y θ xs × (tray' ≡ laid xs tray))
+Concluded p θ Y tray tray' made x AtSettled = (a : Solved) × (x ≡ Ok a) × (a.mask ≡ mask_of p Y) × (a.exchanges ≡ made) × ((xs : List ℤ) × Commands p Y θ xs × (tray' ≡ laid xs tray))
 Concluded p θ Y tray tray' made x (NoRow j) = (x ≡ Err (NoCommand (ByLimit (j + 1)))) × (¬ InBasis p Y j → (xs : List ℤ) × WeightsList p Y j xs × (tray' ≡ laid xs tray))
 Concluded p θ Y tray tray' made x (OutOfWidth j) = (x ≡ Err (Width (j + 1))) × (tray' ≡ tray)
 
@@ -47,4 +47,4 @@ pub data Outcome (p : Meaning) (θ : List ℤ) (X : CornerOf p) (tray tray' : Li
 
 -- It is so for any corner that the words hold.
 abbrev pub SolveAnswer : Shape → List ℤ → List ℤ → List ℤ → List ℤ → ℕ → List Exchange → Result Solved Refusal → Type 0
-SolveAnswer c θ ws tray tray' room trail r = (p : Meaning) (X : CornerOf p) → c ≡ shape_of p → Holds-corner p X ws → Outcome p θ X tray tray' room trail r
+SolveAnswer c θ ws tray tray' room trail r = (p : Meaning) (X : CornerOf p) → c ≡ shape_of p → HoldsCorner p X ws → Outcome p θ X tray tray' room trail r

@@ -8,7 +8,7 @@ use Rattle.tableau.specs.Search.{SearchEnded}
 use Rattle.words.specs.declared.counts.Shape.{Shape}
 use Rattle.words.specs.declared.refusal.Refusal.{Refusal}
 use Rattle.words.specs.declared.refusal.Refusal.TheVariants.{Width, NoBest}
-use Rattle.corner_runs.specs.Answers.{Holds-corner, Holds-search, Some-search}
+use Rattle.corner_runs.specs.Answers.{HoldsCorner, HoldsSearch, SomeSearch}
 use Rattle.corner_runs.specs.StartRuns.{StartBeyondWidth}
 use Rattle.corner_runs.specs.declared.search.StartEnd.{StartEnd}
 use Rattle.corner_runs.specs.declared.search.StartEnd.TheVariants.{Ended, OutOfWidth}
@@ -23,18 +23,18 @@ SomeArtificial c ws = (r : ℕ) × (r < c.commands) × (pos c.limits ≤ℤ entr
 
 -- Unless the search ended out of width, the words hold a corner of it; the limit is one of the plant's.
 abbrev pub KeptSearch : Shape → List ℤ → StartEnd → Type 0
-KeptSearch c ws Ended = Some-search c ws
+KeptSearch c ws Ended = SomeSearch c ws
 KeptSearch c ws (OutOfWidth j) = j < c.limits
 
 -- Unless the search ended out of width, the words hold the corner Y of it.
 abbrev pub SearchUnless : (p : Meaning) → SearchCorner p → List ℤ → StartEnd → Type 0
-SearchUnless p Y ws Ended = Holds-search p Y ws
+SearchUnless p Y ws Ended = HoldsSearch p Y ws
 SearchUnless p Y ws (OutOfWidth j) = Unit {0}
 
 -- What the end of a search at Y is told as: no best, or the corner of the plant with the basis of Y.
 pub data Told (p : Meaning) (Y : SearchCorner p) (ws tray tray' : List ℤ) (made : ℕ) : Result Started Refusal → Type 0 where
   unbounded : ArtificialLeft p Y → tray' ≡ laid (direction_list p Y) tray → Told p Y ws tray tray' made (Err NoBest)
-  corner : {a : Started} (X : CornerOf p) → SameBasis p X Y → Holds-corner p X ws → a.mask ≡ mask_of p X → a.exchanges ≡ made → tray' ≡ tray → Told p Y ws tray tray' made (Ok a)
+  corner : {a : Started} (X : CornerOf p) → SameBasis p X Y → HoldsCorner p X ws → a.mask ≡ mask_of p X → a.exchanges ≡ made → tray' ≡ tray → Told p Y ws tray tray' made (Ok a)
 
 abbrev pub StartConcluded : (p : Meaning) → SearchCorner p → List ℤ → List ℤ → List ℤ → ℕ → Result Started Refusal → StartEnd → Type 0
 StartConcluded p Y ws tray tray' made x Ended = Told p Y ws tray tray' made x
@@ -45,6 +45,6 @@ StartConclusion c ws tray tray' s x = (p : Meaning) (Y : SearchCorner p) → c �
 
 -- The search from the basis of all artificial limits, its end and what is left: the words hold the first corner, the tray the direction.
 pub data FirstCorner (p : Meaning) (ws tray tray' : List ℤ) : Result Started Refusal → Type 0 where
-  found : {a : Started} (Y : SearchCorner p) (X : CornerOf p) → SearchTo p a.exchanges Y → SearchEnded p Y → SameBasis p X Y → Holds-corner p X ws → a.mask ≡ mask_of p X → tray' ≡ tray → FirstCorner p ws tray tray' (Ok a)
+  found : {a : Started} (Y : SearchCorner p) (X : CornerOf p) → SearchTo p a.exchanges Y → SearchEnded p Y → SameBasis p X Y → HoldsCorner p X ws → a.mask ≡ mask_of p X → tray' ≡ tray → FirstCorner p ws tray tray' (Ok a)
   no_best : (made : ℕ) (Y : SearchCorner p) → SearchTo p made Y → SearchEnded p Y → ArtificialLeft p Y → tray' ≡ laid (direction_list p Y) tray → FirstCorner p ws tray tray' (Err NoBest)
   wide : {place : ℕ} (made j : ℕ) (Y : SearchCorner p) → SearchTo p made Y → StartBeyondWidth p Y j → place ≡ j + 1 → tray' ≡ tray → FirstCorner p ws tray tray' (Err (Width place))

@@ -3,7 +3,7 @@ ghost use Rattle.std.specs.Prelude.{◌≡◌, ◌+◌, ◌^◌, ◌<◌, ◌≤
 ghost use Rattle.words.specs.Bounds.{most_limits};
 ghost use Rattle.words.specs.Layout.{InBounds};
 ghost use Rattle.tableau_words.specs.Layout.{size};
-ghost use Rattle.corner_runs.specs.Answers.{Some-corner};
+ghost use Rattle.corner_runs.specs.Answers.{SomeCorner};
 ghost use Rattle.working_tableau.specs.Crossings.{LeftAnswer, SomeRow, CrossAnswer};
 
 use corner_words::enter::{Entered, enter};
@@ -17,7 +17,7 @@ use words::counts::Shape;
 pub fn left_by(words: &[i64], shape: Shape, limit: usize) -> Option<usize>
     requires counts { InBounds shape }
     requires place { limit < shape.limits }
-    requires corner { Some-corner shape words.now }
+    requires corner { SomeCorner shape words.now }
     ensures { LeftAnswer shape limit words.now result }
 {
     let row = leaving(words, shape, limit)?;
@@ -38,7 +38,7 @@ pub fn mask_across(mask: u32, entering: usize, left: usize) -> u32
 fn enter_on(words: &mut [i64; MOST_WORDS], shape: Shape, limit: usize) -> Option<[i64; MOST_WORDS]>
     requires counts { InBounds shape }
     requires place { limit < shape.limits }
-    requires corner { Some-corner shape (take (size shape) words.old) }
+    requires corner { SomeCorner shape (take (size shape) words.old) }
     requires row { SomeRow shape limit (take (size shape) words.old) }
     ensures { CrossAnswer shape limit (take (size shape) words.old) result }
 {
@@ -60,7 +60,7 @@ pub fn cross(
 ) -> Option<[i64; MOST_WORDS]>
     requires counts { InBounds shape }
     requires place { limit < shape.limits }
-    requires corner { Some-corner shape (take (size shape) from.now) }
+    requires corner { SomeCorner shape (take (size shape) from.now) }
     requires row { SomeRow shape limit (take (size shape) from.now) }
     ensures same { words.new ≡ words.old }
     ensures answer { CrossAnswer shape limit (take (size shape) from.now) result }

@@ -4,7 +4,7 @@ ghost use Rattle.exact.specs.Bounds.{AllInWidth};
 ghost use Rattle.words.specs.Layout.{InBounds};
 ghost use Rattle.tableau_words.specs.Layout.{size};
 ghost use Rattle.bounded_list.specs.Contents.{contents, room as room_of};
-ghost use Rattle.corner_runs.specs.Answers.{Some-corner};
+ghost use Rattle.corner_runs.specs.Answers.{SomeCorner};
 ghost use Rattle.trays.specs.Trays.{tray_size};
 ghost use Rattle.working_tableau.specs.Solves.{KeptCorner, Conclusion, SolveAnswer};
 
@@ -62,7 +62,7 @@ fn run_on(
 ) -> Result<Solved, Refusal>
     requires counts { InBounds shape }
     requires reading { (length reading.now ≡ shape.readings) × AllInWidth reading.now }
-    requires corner { Some-corner shape (take (size shape) words.old) }
+    requires corner { SomeCorner shape (take (size shape) words.old) }
     requires tray { tray_size ≤ length tray.old }
     requires empty { contents trail.old ≡ [] }
     ensures room { room_of trail.new ≡ room_of trail.old }
@@ -84,7 +84,7 @@ pub fn solve_from(
 ) -> Result<Solved, Refusal>
     requires counts { InBounds shape }
     requires reading { (length reading.now ≡ shape.readings) × AllInWidth reading.now }
-    requires corner { Some-corner shape (take (size shape) words.old) }
+    requires corner { SomeCorner shape (take (size shape) words.old) }
     requires tray { tray_size ≤ length tray.old }
     requires empty { contents trail.old ≡ [] }
     ensures same { words.new ≡ words.old }

@@ -5,7 +5,7 @@ ghost use Rattle.plant.specs.Meaning.{shape_of};
 ghost use Rattle.plant_table.specs.Tabled.{meaning_of};
 ghost use Rattle.tableau_words.specs.Layout.{size, most_size};
 ghost use Rattle.corner_words.specs.Reads.{OwnLimits};
-ghost use Rattle.corner_runs.specs.Answers.{Some-search};
+ghost use Rattle.corner_runs.specs.Answers.{SomeSearch};
 ghost use Rattle.trays.specs.Trays.{tray_size};
 ghost use Rattle.working_tableau.specs.Starts.{SomeArtificial, KeptSearch, StartConclusion, FirstCorner};
 

@@ -10,7 +10,7 @@ pub loop-i-init : goal.loop-i-init
 loop-i-init c =
     let h = c.ranges.first in
     let f = first_then c.args.first (entries c.args.numbers.now) in
-    let e : pos c.unsigned-abs-common.result ≡ c.args.first = omega (arith, ints) in
+    let e : pos c.unsigned_abs-common.result ≡ c.args.first = omega (arith, ints) in
     simp to_z-of_z (subst (Gcd 1 f) (sym e) (gcd_alone f (omega (arith, ints))))
 
 pub returns-then-common-eq1 : goal.returns-then-common-eq1
@@ -29,7 +29,7 @@ loop-i-preserved c =
     let r = pos c.euclid-common.result in
     let hx : SFits w64 x = search rules in
     let I : Gcd (suc c.loop-i.i) f (pos c.loop-i.common) = simp to_z-of_z at c.loop-i.invariant in
-    let e : c.unsigned-abs.result ≡ nat_abs x = simp to_z-of_z at c.unsigned-abs.ensures.value in
+    let e : c.unsigned_abs.result ≡ nat_abs x = simp to_z-of_z at c.unsigned_abs.ensures.value in
     let g : GcdOfTwo (pos (nat_abs x)) (pos c.loop-i.common) r = subst (λ (n : ℕ). GcdOfTwo (pos n) (pos c.loop-i.common) r) e c.euclid-common.ensures in
     simp (to_z-of_z, add-one) (gcd_more (suc c.loop-i.i) f (pos c.loop-i.common) r I (gcd_size (pos c.loop-i.common) x r (gcd_swap (pos (nat_abs x)) (pos c.loop-i.common) r g)))
 

@@ -1,6 +1,6 @@
 use Rattle.std.proofs.Common.{◌≡◌, ℕ, List, sym, ap, ◌∙◌, subst}
 use Rattle.std.proofs.lemmas.Result.{err_from_is_err_and}
-use Rattle.words.specs.Faults.{Faulty, Laid_out, shape_of}
+use Rattle.words.specs.Faults.{Faulty, LaidOut, shape_of}
 use Rattle.words.specs.declared.counts.Shape.{Shape}
 use Rattle.words.specs.declared.refusal.Refusal.{Refusal}
 use Rattle.words.proofs.Verdicts.{not_laid_out}
@@ -17,8 +17,8 @@ refused ws vs e s f =
     let g = subst (λ x. Faulty x e) s f in
     (g, λ p D. not_laid_out ws e g (described_is_laid_out ws p D))
 
-accepted : (ws vs : List ℕ) (c : Shape) → vs ≡ ws → Laid_out vs → c ≡ shape_of vs → Describes ws (said ws c)
-accepted ws vs c s l e = subst (λ x. Describes ws (said ws x)) (sym (e ∙ ap shape_of s)) (describes ws (subst Laid_out s l))
+accepted : (ws vs : List ℕ) (c : Shape) → vs ≡ ws → LaidOut vs → c ≡ shape_of vs → Describes ws (said ws c)
+accepted ws vs c s l e = subst (λ x. Describes ws (said ws x)) (sym (e ∙ ap shape_of s)) (describes ws (subst LaidOut s l))
 
 pub returns-in-err--part : goal.returns-in-err--part
 returns-in-err--part c =

@@ -12,8 +12,8 @@ loop-taken-init c =
 pub returns-then-at-words : goal.returns-then-at-words
 returns-then-at-words c =
     let i = c.loop-taken.invariant in
-    let taken : c.loop-taken.-taken < span c.args.first = omega arith in
-    short_here c.args.words.now c.args.from c.args.first c.requires.stands c.requires.more c.loop-taken.-taken taken c.loop-taken.at c.loop-taken.state i.0 i.3 i.2 (omega (arith, i.1))
+    let taken : c.loop-taken._taken < span c.args.first = omega arith in
+    short_here c.args.words.now c.args.from c.args.first c.requires.stands c.requires.more c.loop-taken._taken taken c.loop-taken.at c.loop-taken.state i.0 i.3 i.2 (omega (arith, i.1))
 
 pub returns-in-err-step : goal.returns-in-err-step
 returns-in-err-step c =
@@ -26,17 +26,17 @@ pub loop-taken-preserved : goal.loop-taken-preserved
 loop-taken-preserved c =
     let ws = c.args.words.now in
     let i = c.loop-taken.invariant in
-    let taken : c.loop-taken.-taken < span c.args.first = omega arith in
-    let step = c.in-ok-step.ensures in (
+    let taken : c.loop-taken._taken < span c.args.first = omega arith in
+    let step = c.in_ok-step.ensures in (
       omega (arith, i.0),
       omega arith,
-      right_here ws c.args.from c.args.first c.requires.stands c.requires.more c.loop-taken.-taken taken c.loop-taken.at c.loop-taken.state i.0 i.3 i.2 step.0,
-      moved_here ws c.args.from c.args.first c.requires.stands c.requires.more c.loop-taken.-taken taken c.loop-taken.at c.loop-taken.state i.0 i.3 i.2 c.step.new.self step.1,
+      right_here ws c.args.from c.args.first c.requires.stands c.requires.more c.loop-taken._taken taken c.loop-taken.at c.loop-taken.state i.0 i.3 i.2 step.0,
+      moved_here ws c.args.from c.args.first c.requires.stands c.requires.more c.loop-taken._taken taken c.loop-taken.at c.loop-taken.state i.0 i.3 i.2 c.step.new.self step.1,
     )
 
 pub returns : goal.returns
 returns c =
     let i = c.loop-taken.invariant in
-    let all : c.loop-taken.-taken ≡ span c.args.first = omega arith in
+    let all : c.loop-taken._taken ≡ span c.args.first = omega arith in
     let over : c.loop-taken.at ≡ c.args.from + span c.args.first = omega (arith, i.0) in
     rw (i.3, all) (ends c.args.words.now c.args.from c.args.first c.requires.stands c.requires.more (λ k l. i.2 k (omega arith)) (omega (arith, i.1)))

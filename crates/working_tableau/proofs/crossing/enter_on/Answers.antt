@@ -5,7 +5,7 @@ use Rattle.tableau_words.specs.Layout.{size}
 use Rattle.corner_words.specs.Enters.{EnterAnswer}
 use Rattle.corner_words.specs.declared.enter.Entered.TheVariants.{Across, NoRow}
 use Rattle.corner_words.proofs.Holdings.{holding_long}
-use Rattle.corner_runs.specs.Answers.{Some-corner}
+use Rattle.corner_runs.specs.Answers.{SomeCorner}
 use Rattle.working_tableau.proofs.Corners.{corner_holding, used_words}
 use Rattle.working_tableau.proofs.Crossings.{never_without_row, gone_across}
 use Rattle.working_tableau.proofs.crossing.enter_on.Goals as goal
@@ -15,7 +15,7 @@ enter-requires c =
     let s = c.args.shape in
     let n = c.tableau-size-size.result in
     let used = used_words s c.args.words.now n c.tableau-size-size.ensures.value in
-    record { counts = c.requires.counts; place = c.requires.place; holding = corner_holding s (take (n - 0) c.args.words.now) (subst (Some-corner s) (sym used) c.requires.corner) }
+    record { counts = c.requires.counts; place = c.requires.place; holding = corner_holding s (take (n - 0) c.args.words.now) (subst (SomeCorner s) (sym used) c.requires.corner) }
 
 pub unreachable-requires : goal.unreachable-requires
 unreachable-requires c =

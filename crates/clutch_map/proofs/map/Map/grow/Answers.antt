@@ -3,7 +3,7 @@ use Rattle.bounded_list.specs.Contents.{contents, room}
 use Rattle.plant_table.specs.Tabled.{meaning_of}
 use Rattle.words.specs.Layout.{InBounds}
 use Rattle.tableau_words.specs.Layout.{size}
-use Rattle.corner_runs.specs.Answers.{Some-corner}
+use Rattle.corner_runs.specs.Answers.{SomeCorner}
 use Rattle.corner_list.specs.Lists.{ListsAnswer}
 use Rattle.corner_list.specs.declared.corner.Corner.{Corner}
 use Rattle.corner_list.specs.Records.{AllRecords}
@@ -75,7 +75,7 @@ left-by-requires c =
     let j = c.in-Some-outside.limit in
     let d = due_pair (goal.at.left-by-requires c).In-Some-outside in
     let used = used_words s r.words c.tableau-size-size.result c.tableau-size-size.ensures.value in
-    record { counts = c.shape-shape.ensures.bounds; place = due_known p cs self.pairs r j d s counts; corner = subst (Some-corner s) (sym used) (due_corner p cs self.pairs r j d s counts) }
+    record { counts = c.shape-shape.ensures.bounds; place = due_known p cs self.pairs r j d s counts; corner = subst (SomeCorner s) (sym used) (due_corner p cs self.pairs r j d s counts) }
 
 pub overflow-add-self : goal.overflow-add-self
 overflow-add-self c = omega (arith, counted (goal.at.overflow-add-self c).After-shape-shape)

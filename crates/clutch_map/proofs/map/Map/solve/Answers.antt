@@ -1,7 +1,7 @@
 use Rattle.std.proofs.Common.{◌≡◌, ◌<◌, ◌≤◌, length, take, sym, refl, ap, ◌∙◌, subst, arith, eqb-true}
 use Rattle.words.specs.declared.counts.Shape.{Shape}
 use Rattle.tableau_words.specs.Layout.{size}
-use Rattle.corner_runs.specs.Answers.{Holds-corner}
+use Rattle.corner_runs.specs.Answers.{HoldsCorner}
 use Rattle.bounded_list.specs.Contents.{contents, room}
 use Rattle.plant_table.specs.Tabled.{meaning_of}
 use Rattle.map_steps.specs.Steps.{solve_not_begun, solve_reading, solve_short}
@@ -48,6 +48,6 @@ returns c =
     let some = listed self c.is-empty.result c.is-empty.ensures c.if-is-empty.false in
     let fit = c.in-default.ensures p (ap (λ (s : Shape). s.readings) c.shape-shape.ensures.counts) in
     let (X, holds, mask) = first_corner p cs self.words self.records self.first some in
-    let holds' : Holds-corner p X (take (size c.shape-shape.result) self.words) = subst (λ (s : Shape). Holds-corner p X (take (size s) self.words)) (sym c.shape-shape.ensures.counts) holds in
+    let holds' : HoldsCorner p X (take (size c.shape-shape.result) self.words) = subst (λ (s : Shape). HoldsCorner p X (take (size s) self.words)) (sym c.shape-shape.ensures.counts) holds in
     solve_step v c.args.reading.now (record { kind = self.kind; meaning = p }) X (record { force = some_force cs self.kind p some; readings = fit; tray = c.if-tray-lt-TRAY.false }) mask c.solve-from.new.tray (contents c.solve-from.new.trail) c.solve-from.result
     (room c.clear.new.self) (room c.solve-from.new.trail) c.clear.ensures.room (c.solve-from.ensures.room ∙ c.clear.ensures.room) (c.solve-from.ensures.answer p X c.shape-shape.ensures.counts holds')

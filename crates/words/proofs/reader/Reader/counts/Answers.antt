@@ -1,6 +1,6 @@
 use Rattle.std.proofs.Common.{◌≡◌, ℕ, true, List, length, Some, None, Option, sym, ap, ◌∙◌, subst, MatchOption}
 use Rattle.words.specs.Layout.{InBounds}
-use Rattle.words.specs.Faults.{Laid_out, shape_of}
+use Rattle.words.specs.Faults.{LaidOut, shape_of}
 use Rattle.words.specs.Parts.{ReadWhole}
 use Rattle.words.specs.Steps.{StateFits}
 use Rattle.words.specs.declared.counts.Counts.{Counts}
@@ -10,7 +10,7 @@ use Rattle.words.specs.Steps.{done}
 use Rattle.words.proofs.Ends.{reader_stands, not_done, unread, laid_out, done_shape}
 use Rattle.words.proofs.reader.Reader.counts.Goals as goal
 
-counted : (ws : List ℕ) (k : ℕ) (s : Shape) (r : Option Counts) → MatchOption r (InBounds s → ⊥) (λ c. c.shape ≡ s) → InBounds s → Laid_out ws → k ≡ length ws → s ≡ shape_of ws → ReadWhole ws k r
+counted : (ws : List ℕ) (k : ℕ) (s : Shape) (r : Option Counts) → MatchOption r (InBounds s → ⊥) (λ c. c.shape ≡ s) → InBounds s → LaidOut ws → k ≡ length ws → s ≡ shape_of ws → ReadWhole ws k r
 counted ws k s None h b l e q = absurd (h b)
 counted ws k s (Some c) h b l e q = (l, e, h ∙ q)
 

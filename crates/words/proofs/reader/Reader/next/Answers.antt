@@ -14,8 +14,8 @@ returns-then-at-words c =
     let r = c.args.self.now in
     let ws = r.words.now in
     let at : r.at + c.span.result ≡ r.at + span r.state = ap (λ n. r.at + n) c.span.ensures in
-    let S : Stands ws (r.at + c.span.result) c.in-ok-state.state = rw at c.in-ok-state.ensures in
-    record { words = refl; handed = (follows_close ws (r.at + c.span.result) c.in-ok-state.state c.in-Done-state.field-0 c.in-Done-state.is S c.if-at-words.true, refl) }
+    let S : Stands ws (r.at + c.span.result) c.in_ok-state.state = rw at c.in_ok-state.ensures in
+    record { words = refl; handed = (follows_close ws (r.at + c.span.result) c.in_ok-state.state c.in-Done-state.field-0 c.in-Done-state.is S c.if-at-words.true, refl) }
 
 pub part-at-requires : goal.part-at-requires
 part-at-requires c =
@@ -27,13 +27,13 @@ returns c =
     let r = c.args.self.now in
     let ws = r.words.now in
     let at : r.at + c.span.result ≡ r.at + span r.state = ap (λ n. r.at + n) c.span.ensures in
-    let more = longer ws r.at r.state (reader_stands r) (not_done r.state c.in-default.not-Done) in
+    let more = longer ws r.at r.state (reader_stands r) (not_done r.state c.in_default.not-Done) in
     record {
       words = refl;
       handed = (
-        c.part-at.ensures.part,
-        ap (λ n. r.at + n) (c.span.ensures ∙ sym c.part-at.ensures.span),
+        c.part_at.ensures.part,
+        ap (λ n. r.at + n) (c.span.ensures ∙ sym c.part_at.ensures.span),
         omega (arith, more, at),
-        rw at c.in-ok-state.ensures.right,
+        rw at c.in_ok-state.ensures.right,
       );
     }

@@ -1,6 +1,6 @@
 use Rattle.std.proofs.Common.{get_or, pos, arith, w64, SFits, rules}
 use Rattle.std.proofs.lemmas.Int.{ints, to_z-of_z}
-use Rattle.clutch_map.proofs.readings.reading_fault.Goals.{then-reading-k-via-then-reading-k, then-reading-k-via-else-reading-k+then-reading-k-gt-LARGEST-READING}
+use Rattle.clutch_map.proofs.readings.reading_fault.Goals.{then-reading-k-via-then-reading-k, then-reading-k-via-else-reading-k+then-reading-k-gt-LARGEST_READING}
 use Rattle.clutch_map.proofs.Faults.{other_number, out_of_range, no_fault}
 use Rattle.clutch_map.proofs.readings.reading_fault.Goals as goal
 
@@ -16,6 +16,6 @@ returns-then-reading-k c =
     out_of_range c.args.readings θ k c.if-reading-readings.false c.loop-k-test.true
     (λ h. elim c.then-reading-k.branch [
       | then-reading-k-via-then-reading-k w ↦ omega (arith, ints, same, w.if-reading-k.true)
-      | then-reading-k-via-else-reading-k+then-reading-k-gt-LARGEST-READING w ↦ omega (arith, ints, same, w.if-reading-k-gt-LARGEST-READING.true)
+      | then-reading-k-via-else-reading-k+then-reading-k-gt-LARGEST_READING w ↦ omega (arith, ints, same, w.if-reading-k-gt-LARGEST_READING.true)
     ])
     c.loop-k.invariant

@@ -9,8 +9,8 @@ use Rattle.corner_runs.proofs.run.run.Goals as goal
 pub loop-limit-init : goal.loop-limit-init
 loop-limit-init c = (at_first c.args.shape c.args.readings.now c.args.words.now (room c.args.trail.now) (contents c.args.trail.now) c.requires.empty, refl)
 
-pub least-willing-requires : goal.least-willing-requires
-least-willing-requires c =
+pub least_willing-requires : goal.least_willing-requires
+least_willing-requires c =
     let s = c.args.shape in
     let ws = c.loop-limit.words in
     let h = holding s c.args.readings.now c.args.words.now ws c.loop-limit.exchanges (room c.args.trail.now) (contents c.loop-limit.trail) c.loop-limit.invariant.0 c.requires.corner in
@@ -23,11 +23,11 @@ enter-requires c = record {
   holding = holding c.args.shape c.args.readings.now c.args.words.now c.loop-limit.words c.loop-limit.exchanges (room c.args.trail.now) (contents c.loop-limit.trail) c.loop-limit.invariant.0 c.requires.corner;
 }
 
-pub returns-in-default : goal.returns-in-default
-returns-in-default c = record { room = c.loop-limit.invariant.1; run = λ p X s H. settled c.args.shape c.args.readings.now c.args.words.now c.loop-limit.words c.loop-limit.exchanges (room c.args.trail.now) (contents c.loop-limit.trail) c.loop-limit.invariant.0 p X s H c.in-default.ensures }
+pub returns-in_default : goal.returns-in_default
+returns-in_default c = record { room = c.loop-limit.invariant.1; run = λ p X s H. settled c.args.shape c.args.readings.now c.args.words.now c.loop-limit.words c.loop-limit.exchanges (room c.args.trail.now) (contents c.loop-limit.trail) c.loop-limit.invariant.0 p X s H c.in_default.ensures }
 
-pub overflow-add-left : goal.overflow-add-left
-overflow-add-left c =
+pub overflow_add-left : goal.overflow_add-left
+overflow_add-left c =
     let known = left_known c.args.shape c.args.readings.now c.args.words.now c.loop-limit.words c.loop-limit.exchanges (room c.args.trail.now) (contents c.loop-limit.trail) c.loop-limit.invariant.0 c.requires.corner c.in-Some.limit c.enter.new.words c.in-Across.left c.in-Across.ensures in
     omega (arith, c.requires.counts.3)
 
@@ -40,8 +40,8 @@ short : (c : goal.After-push) → c.loop-limit.exchanges + 1 < choose c.args.sha
 short c =
     made_short c.args.shape c.args.readings.now c.args.words.now c.enter.new.words (c.loop-limit.exchanges + 1) (room c.args.trail.now) (contents c.push.new.self) (further c) c.requires.corner
 
-pub overflow-add-exchanges : goal.overflow-add-exchanges
-overflow-add-exchanges c = let h = short c in omega (arith, choose_few c.args.shape.limits c.args.shape.commands (omega (arith, c.requires.counts.3)))
+pub overflow_add-exchanges : goal.overflow_add-exchanges
+overflow_add-exchanges c = let h = short c in omega (arith, choose_few c.args.shape.limits c.args.shape.commands (omega (arith, c.requires.counts.3)))
 
 pub loop-limit-smaller : goal.loop-limit-smaller
 loop-limit-smaller c = let h = short c in omega arith

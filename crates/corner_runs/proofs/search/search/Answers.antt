@@ -8,11 +8,11 @@ use Rattle.corner_runs.proofs.search.search.Goals as goal
 pub loop-limit-init : goal.loop-limit-init
 loop-limit-init c = search_first c.args.shape c.args.words.now
 
-pub least-stopping-requires : goal.least-stopping-requires
-least-stopping-requires c = record { counts = c.requires.counts; corner = searched c.args.shape c.args.words.now c.loop-limit.words c.loop-limit.exchanges c.loop-limit.invariant c.requires.corner }
+pub least_stopping-requires : goal.least_stopping-requires
+least_stopping-requires c = record { counts = c.requires.counts; corner = searched c.args.shape c.args.words.now c.loop-limit.words c.loop-limit.exchanges c.loop-limit.invariant c.requires.corner }
 
-pub returns-in-default : goal.returns-in-default
-returns-in-default c = λ p X s H. search_over c.args.shape c.args.words.now c.loop-limit.words c.loop-limit.exchanges c.loop-limit.invariant p X s H c.in-default.ensures
+pub returns-in_default : goal.returns-in_default
+returns-in_default c = λ p X s H. search_over c.args.shape c.args.words.now c.loop-limit.words c.loop-limit.exchanges c.loop-limit.invariant p X s H c.in_default.ensures
 
 pub enter-requires : goal.enter-requires
 enter-requires c =
@@ -22,13 +22,13 @@ enter-requires c =
 
 -- The search with the new exchange.
 further : (c : goal.In-Across) → Searching c.args.shape c.args.words.now (c.loop-limit.exchanges + 1) c.enter.new.words
-further c = λ p X s H. searches_on c.args.shape c.args.words.now c.loop-limit.words c.loop-limit.exchanges c.loop-limit.invariant p X s H c.in-Some.limit c.in-Some.ensures c.enter.new.words c.in-Across.-left c.in-Across.ensures
+further c = λ p X s H. searches_on c.args.shape c.args.words.now c.loop-limit.words c.loop-limit.exchanges c.loop-limit.invariant p X s H c.in-Some.limit c.in-Some.ensures c.enter.new.words c.in-Across._left c.in-Across.ensures
 
 short : (c : goal.In-Across) → c.loop-limit.exchanges + 1 < choose (c.args.shape.limits + c.args.shape.commands) c.args.shape.commands
 short c = made_few c.args.shape c.args.words.now c.enter.new.words (c.loop-limit.exchanges + 1) (further c) c.requires.corner
 
-pub overflow-add-exchanges : goal.overflow-add-exchanges
-overflow-add-exchanges c = let h = short c in omega (arith, choose_few (c.args.shape.limits + c.args.shape.commands) c.args.shape.commands (omega (arith, c.requires.counts.1, c.requires.counts.3)))
+pub overflow_add-exchanges : goal.overflow_add-exchanges
+overflow_add-exchanges c = let h = short c in omega (arith, choose_few (c.args.shape.limits + c.args.shape.commands) c.args.shape.commands (omega (arith, c.requires.counts.1, c.requires.counts.3)))
 
 pub loop-limit-smaller : goal.loop-limit-smaller
 loop-limit-smaller c = let h = short c in omega arith

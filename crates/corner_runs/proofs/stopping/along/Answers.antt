@@ -4,8 +4,8 @@ use Rattle.corner_words.proofs.Holdings.{holding_long, holding_widths}
 use Rattle.corner_runs.proofs.Directions.{searching, along_is}
 use Rattle.corner_runs.proofs.stopping.along.Goals as goal
 
-pub artificial-sum-requires : goal.artificial-sum-requires
-artificial-sum-requires c =
+pub artificial_sum-requires : goal.artificial_sum-requires
+artificial_sum-requires c =
     let s = c.args.shape in
     let ws = c.args.words.now in
     let h = searching s ws c.requires.corner in
@@ -13,5 +13,5 @@ artificial-sum-requires c =
 
 pub returns : goal.returns
 returns c =
-    let fits : SFits w64 c.artificial-sum.result = search rules in
-    simp to_z-of_z (along_is c.args.shape c.args.limit c.args.words.now c.artificial-sum.result c.requires.place c.artificial-sum.ensures)
+    let fits : SFits w64 c.artificial_sum.result = search rules in
+    simp to_z-of_z (along_is c.args.shape c.args.limit c.args.words.now c.artificial_sum.result c.requires.place c.artificial_sum.ensures)

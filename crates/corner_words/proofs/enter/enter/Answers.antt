@@ -9,11 +9,11 @@ leaving-requires c =
     let h = c.requires.holding in
     record { counts = c.requires.counts; place = c.requires.place; long = holding_long s ws h; widths = holding_widths s ws h c.requires.counts }
 
-pub returns-in-default : goal.returns-in-default
-returns-in-default c = no_row c.args.shape c.args.limit c.args.words.now c.in-default.ensures
+pub returns-in_default : goal.returns-in_default
+returns-in_default c = no_row c.args.shape c.args.limit c.args.words.now c.in_default.ensures
 
-pub row-limit-left-requires : goal.row-limit-left-requires
-row-limit-left-requires c = record {
+pub row_limit-left-requires : goal.row_limit-left-requires
+row_limit-left-requires c = record {
   counts = c.requires.counts;
   place = leaving_inside c.args.shape c.args.words.now c.requires.holding c.args.limit c.in-Some.row c.in-Some.ensures;
   holding = c.requires.holding;
@@ -36,7 +36,7 @@ exchange-requires c =
 
 pub returns-in-Ok : goal.returns-in-Ok
 returns-in-Ok c =
-    gone_across c.args.shape c.args.limit c.args.words.now c.requires.place c.in-Some.row c.in-Some.ensures c.exchange.new.words c.row-limit-left.result c.row-limit-left.ensures c.in-Ok.field-0 c.in-Ok.ensures
+    gone_across c.args.shape c.args.limit c.args.words.now c.requires.place c.in-Some.row c.in-Some.ensures c.exchange.new.words c.row_limit-left.result c.row_limit-left.ensures c.in-Ok.field-0 c.in-Ok.ensures
 
 pub returns-in-Err : goal.returns-in-Err
 returns-in-Err c =

@@ -7,34 +7,34 @@ use Rattle.corner_words.proofs.Masks.{limit_in, mask_to, mask_none, limit_read, 
 use Rattle.corner_words.proofs.read.mask.Goals as goal
 
 -- The limit that was read is one of the plant's, and its bit makes the mask of one row more.
-low : (c : goal.After-row-limit) → c.row-limit.result < most_limits
+low : (c : goal.After-row_limit) → c.row_limit.result < most_limits
 low c =
     let s = c.args.shape in
     let ws = c.args.words.now in
     let h = c.requires.holding in
     let row = c.loop-row.row in
-    omega (arith, limit_read s ws h row c.row-limit.result (omega arith) c.row-limit.ensures, limit_below s ws h c.requires.own row (omega arith), c.requires.counts.3)
+    omega (arith, limit_read s ws h row c.row_limit.result (omega arith) c.row_limit.ensures, limit_below s ws h c.requires.own row (omega arith), c.requires.counts.3)
 
-next : (c : goal.After-row-limit) → c.loop-row.bits + (1 * 2 ^ c.row-limit.result) % 2 ^ 32 ≡ mask_to c.args.shape c.args.words.now (c.loop-row.row + 1)
+next : (c : goal.After-row_limit) → c.loop-row.bits + (1 * 2 ^ c.row_limit.result) % 2 ^ 32 ≡ mask_to c.args.shape c.args.words.now (c.loop-row.row + 1)
 next c =
     let s = c.args.shape in
     let ws = c.args.words.now in
     let h = c.requires.holding in
     let row = c.loop-row.row in
-    let e = limit_read s ws h row c.row-limit.result (omega arith) c.row-limit.ensures in
-    rw (one_shl c.row-limit.result 32 (omega (arith, low c)), c.loop-row.invariant, e) (sym (next_bit s ws h c.requires.own row (omega arith)))
+    let e = limit_read s ws h row c.row_limit.result (omega arith) c.row_limit.ensures in
+    rw (one_shl c.row_limit.result 32 (omega (arith, low c)), c.loop-row.invariant, e) (sym (next_bit s ws h c.requires.own row (omega arith)))
 
 pub loop-row-init : goal.loop-row-init
 loop-row-init c = mask_none c.args.shape.limits (limit_in c.args.words.now)
 
-pub overflow-cast-bits : goal.overflow-cast-bits
-overflow-cast-bits c = omega (arith, low c)
+pub overflow_cast-bits : goal.overflow_cast-bits
+overflow_cast-bits c = omega (arith, low c)
 
-pub overflow-shl-bits : goal.overflow-shl-bits
-overflow-shl-bits c = omega (arith, low c)
+pub overflow_shl-bits : goal.overflow_shl-bits
+overflow_shl-bits c = omega (arith, low c)
 
-pub overflow-add-bits : goal.overflow-add-bits
-overflow-add-bits c =
+pub overflow_add-bits : goal.overflow_add-bits
+overflow_add-bits c =
     let n = c.args.shape.limits in
     omega (arith, next c, mask_below n (holds (c.loop-row.row + 1) (limit_in c.args.words.now)), pow_below n 32 (omega (arith, c.requires.counts.3)))
 

@@ -41,8 +41,8 @@ between c =
     let p = div_pos (pos c.loop-i.common) c.args.first c.loop-i.invariant.nonneg c.requires d in
     (p, div_le (pos c.loop-i.common) c.args.first p c.requires d)
 
-pub overflow-cast-result : goal.overflow-cast-result
-overflow-cast-result c = let h = c.ranges.first in omega (arith, ints, (between c).1)
+pub overflow_cast-result : goal.overflow_cast-result
+overflow_cast-result c = let h = c.ranges.first in omega (arith, ints, (between c).1)
 
 pub returns : goal.returns
 returns c =

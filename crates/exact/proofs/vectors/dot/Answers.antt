@@ -21,8 +21,8 @@ added c =
     let I = simp c.loop-i.sum-is at c.loop-i.invariant in
     (e, omega (arith, abs_add c.loop-i.sum c.product-sum.result, I.1))
 
-pub overflow-add-sum : goal.overflow-add-sum
-overflow-add-sum c =
+pub overflow_add-sum : goal.overflow_add-sum
+overflow_add-sum c =
     let h : SFits w64 c.product-sum.result = search rules in
     let e = c.loop-i.sum-is in
     simp (to_z-of_z, e) (fits_64 (c.loop-i.sum +ℤ c.product-sum.result) (omega (arith, (added c).1)))

@@ -31,12 +31,12 @@ returns c =
     let m : s.commands ≡ commands p = ap (λ (x : Shape). x.commands) same in
     let n : s.limits ≡ limits p = ap (λ (x : Shape). x.limits) same in
     let ws = c.loop-row.words in
-    let ys = c.fill-rows.new.rows in
+    let ys = c.fill_rows.new.rows in
     let inv = c.loop-row.invariant in
     subst (λ (x : Shape). HoldsFirst p (put_mid (first_row x) (length ws - first_row x) ws ys)) (sym same)
     (holds_first p ws ys
     (simp length-set at c.loop-row.auto.words ∙ c.requires)
-    (c.fill-rows.auto.rows ∙ ap length (take_rest ws (first_row s)) ∙ length-drop (first_row s) ws ∙ ap (λ x. length ws - (1 + x)) m)
+    (c.fill_rows.auto.rows ∙ ap length (take_rest ws (first_row s)) ∙ length-drop (first_row s) ws ∙ ap (λ x. length ws - (1 + x)) m)
     (inv.0, (λ r l. inv.1 r (omega arith) ∙ ap (λ x. pos (x + r)) n))
-    c.fill-rows.ensures
+    c.fill_rows.ensures
     (table_bounded c.args.table.now))

@@ -18,6 +18,6 @@ loop-row-preserved c =
     let all : length c.args.rows.now ≡ row_count s * w = c.requires ∙ ap (λ (x : Shape). row_count x * row_width x) (sym same) in
     let in' : r * w + w ≤ length c.loop-row.rows = omega (arith, row_in r w (row_count s) c.loop-row-test.true) in
     let e : r * w + w - r * w ≡ w = omega arith in
-    let long : length c.fill-row.new.numbers ≡ w = omega (arith, c.fill-row.auto.numbers, part_length r w c.loop-row.rows in') in
-    let here : Holds w (first_number p r) c.fill-row.new.numbers = subst (λ (x : Shape). Holds (row_width x) (first_number p r) c.fill-row.new.numbers) (sym same) c.fill-row.ensures in
-    rw e (row_written w r (first_number p) c.loop-row.rows c.fill-row.new.numbers in' long here c.loop-row.invariant)
+    let long : length c.fill_row.new.numbers ≡ w = omega (arith, c.fill_row.auto.numbers, part_length r w c.loop-row.rows in') in
+    let here : Holds w (first_number p r) c.fill_row.new.numbers = subst (λ (x : Shape). Holds (row_width x) (first_number p r) c.fill_row.new.numbers) (sym same) c.fill_row.ensures in
+    rw e (row_written w r (first_number p) c.loop-row.rows c.fill_row.new.numbers in' long here c.loop-row.invariant)

@@ -14,10 +14,10 @@ returns-then-at-words c =
     let v = c.loop-i.invariant in
     missing c.loop-i.i c.loop-i-test.true (sym v.0) (omega (arith, v.1)) v.2
 
-pub returns-then-kind-number-ne-RANGE : goal.returns-then-kind-number-ne-RANGE
-returns-then-kind-number-ne-RANGE c =
+pub returns-then-kind_number-ne-RANGE : goal.returns-then-kind_number-ne-RANGE
+returns-then-kind_number-ne-RANGE c =
     let v = c.loop-i.invariant in
-    other_kind c.loop-i.i c.loop-i-test.true (sym v.0) (omega arith) (λ k. c.if-kind-number-ne-RANGE.true (c.kind-number.ensures ∙ k)) v.2
+    other_kind c.loop-i.i c.loop-i-test.true (sym v.0) (omega arith) (λ k. c.if-kind_number-ne-RANGE.true (c.kind_number.ensures ∙ k)) v.2
 
 pub loop-i-preserved : goal.loop-i-preserved
 loop-i-preserved c =
@@ -26,7 +26,7 @@ loop-i-preserved c =
     let i = c.loop-i.i in
     let n = c.args.from in
     let fits : SFits w32 c.payload.result = search rules in
-    let range : IsRange ws c.loop-i.at = sym c.kind-number.ensures ∙ c.if-kind-number-ne-RANGE.false in (
+    let range : IsRange ws c.loop-i.at = sym c.kind_number.ensures ∙ c.if-kind_number-ne-RANGE.false in (
       omega (arith, v.0),
       omega arith,
       below_more _ _ v.2 (omega (arith, v.0), subst (IsRange ws) v.0 range),

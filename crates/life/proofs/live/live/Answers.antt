@@ -15,15 +15,15 @@ returns-then-k-log g c =
     let first : seen c.open-map.result c.args.tray.now [] (length c.args.trail.now) ≡ at_first (length c.args.records.now) c.args.tray.now (length c.args.trail.now) = ap (λ (x : State). record { state = x; tray = c.args.tray.now; trail = []; trail_room = length c.args.trail.now }) c.open-map.ensures in
     lived plants c.args.orders.now (length c.args.records.now) c.args.tray.now (length c.args.trail.now) c.args.log.now c.loop-k.log c.loop-k.k (seen c.open-map.result c.args.tray.now [] (length c.args.trail.now)) (seen c.loop-k.map c.loop-k.tray [] (length c.args.trail.now)) first c.loop-k.invariant.0 c.loop-k.invariant.2 (inr (inl (omega (arith, c.if-k-log.true, c.loop-k.invariant.1, c.loop-k.auto.log))))
 
-pub returns-then-not-makes-sense : goal.returns-then-not-makes-sense
-returns-then-not-makes-sense g c =
+pub returns-then-not-makes_sense : goal.returns-then-not-makes_sense
+returns-then-not-makes_sense g c =
     let plants = g.S.Shelf.plants c.args.shelf.now in
     let first : seen c.open-map.result c.args.tray.now [] (length c.args.trail.now) ≡ at_first (length c.args.records.now) c.args.tray.now (length c.args.trail.now) = ap (λ (x : State). record { state = x; tray = c.args.tray.now; trail = []; trail_room = length c.args.trail.now }) c.open-map.ensures in
-    lived plants c.args.orders.now (length c.args.records.now) c.args.tray.now (length c.args.trail.now) c.args.log.now c.loop-k.log c.loop-k.k (seen c.open-map.result c.args.tray.now [] (length c.args.trail.now)) (seen c.loop-k.map c.loop-k.tray [] (length c.args.trail.now)) first c.loop-k.invariant.0 c.loop-k.invariant.2 (inr (inr (_, order_at c.args.orders.now c.loop-k.k _ c.loop-k-test.true, c.if-not-makes-sense.ensures)))
+    lived plants c.args.orders.now (length c.args.records.now) c.args.tray.now (length c.args.trail.now) c.args.log.now c.loop-k.log c.loop-k.k (seen c.open-map.result c.args.tray.now [] (length c.args.trail.now)) (seen c.loop-k.map c.loop-k.tray [] (length c.args.trail.now)) first c.loop-k.invariant.0 c.loop-k.invariant.2 (inr (inr (_, order_at c.args.orders.now c.loop-k.k _ c.loop-k-test.true, c.if-not-makes_sense.ensures)))
 
 pub loop-k-preserved : goal.loop-k-preserved
 loop-k-preserved g c = (
-  lives_on (g.S.Shelf.plants c.args.shelf.now) c.args.orders.now _ _ _ c.loop-k.k c.loop-k.log (Start 0 0) c.carry-out-reply.result _ c.loop-k.invariant.0 c.loop-k-test.true (same_room (g.S.Shelf.plants c.args.shelf.now) _ _ _ _ (get_or c.args.orders.now c.loop-k.k (Start 0 0)) c.carry-out-reply.result _ _ c.loop-k.auto.trail c.carry-out-reply.ensures) (record { reply = refl; tray = c.shown.ensures }) c.if-k-log.false,
+  lives_on (g.S.Shelf.plants c.args.shelf.now) c.args.orders.now _ _ _ c.loop-k.k c.loop-k.log (Start 0 0) c.carry_out-reply.result _ c.loop-k.invariant.0 c.loop-k-test.true (same_room (g.S.Shelf.plants c.args.shelf.now) _ _ _ _ (get_or c.args.orders.now c.loop-k.k (Start 0 0)) c.carry_out-reply.result _ _ c.loop-k.auto.trail c.carry_out-reply.ensures) (record { reply = refl; tray = c.shown.ensures }) c.if-k-log.false,
   simp length-set (omega (arith, c.if-k-log.false)),
   rest_on c.loop-k.log c.args.log.now c.loop-k.k _ c.loop-k.invariant.2,
 )

@@ -20,10 +20,10 @@ refused ws vs e s f =
 accepted : (ws vs : List ℕ) (c : Shape) → vs ≡ ws → LaidOut vs → c ≡ shape_of vs → Describes ws (said ws c)
 accepted ws vs c s l e = subst (λ x. Describes ws (said ws x)) (sym (e ∙ ap shape_of s)) (describes ws (subst LaidOut s l))
 
-pub returns-in-err--part : goal.returns-in-err--part
-returns-in-err--part c =
-    let p = err_from_is_err_and c.from-residual.result c.from-residual.ensures.1 in
-    rw (p.1, p.2) (refused c.args.words.now c.loop-part.reader.words.now c.in-err--part.field-0.0 c.loop-part.invariant c.in-err--part.ensures.handed.0)
+pub returns-in_err-_part : goal.returns-in_err-_part
+returns-in_err-_part c =
+    let p = err_from_is_err_and c.from_residual.result c.from_residual.ensures.1 in
+    rw (p.1, p.2) (refused c.args.words.now c.loop-part.reader.words.now c.in_err-_part.field-0.0 c.loop-part.invariant c.in_err-_part.ensures.handed.0)
 
 pub returns : goal.returns
 returns c =

@@ -5,7 +5,7 @@ use Rattle.plant_table.proofs.questions.coefficient.Goals as goal
 pub unreachable-requires : goal.unreachable-requires
 unreachable-requires g c =
     let a = coefficient_answered (g.P.Plant.meaning c.args.plant.now) (g.P.Plant.bounded c.args.plant.now) c.args.limit c.requires.limit c.args.command c.requires.command in
-    never_none _ _ a c.in-default.ensures
+    never_none _ _ a c.in_default.ensures
 
 pub returns : goal.returns
 returns g c =

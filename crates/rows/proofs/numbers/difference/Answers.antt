@@ -12,8 +12,8 @@ found c =
     let d = difference_small c.args.by c.args.x c.args.f c.args.y c.requires.0 c.requires.1 c.requires.2 c.requires.3 in
     (rw (a, b), rw (a, b) (fits_64 (c.args.by *ℤ c.args.x -ℤ c.args.f *ℤ c.args.y) (omega arith)))
 
-pub overflow-sub-result : goal.overflow-sub-result
-overflow-sub-result c =
+pub overflow_sub-result : goal.overflow_sub-result
+overflow_sub-result c =
     let h1 : SFits w64 c.product.result = search rules in
     let h2 : SFits w64 c.product-2.result = search rules in
     simp to_z-of_z (found c).1

@@ -26,8 +26,8 @@ loop-k-preserved c =
     let k = c.loop-k.k in let m = c.args.m in
     let h1 = c.ranges.denominator in
     let h2 : SFits w64 c.numerator.result = search rules in
-    let e : c.numerator.result ≡ numerator_of c.args.denominator c.args.w c.args.pivot_row c.args.column c.args.words.now (k / m) (c.args.first-column + k % m) = simp to_z-of_z at c.numerator.ensures in
+    let e : c.numerator.result ≡ numerator_of c.args.denominator c.args.w c.args.pivot_row c.args.column c.args.words.now (k / m) (c.args.first_column + k % m) = simp to_z-of_z at c.numerator.ensures in
     let I = simp to_z-of_z at c.loop-k.invariant.0 in
     let lt : k < length c.loop-k.numbers = omega (arith, mul-le m m most_rows most_rows c.requires.rows.0 c.requires.rows.0) in
     let v = c.numerator.result in
-    simp to_z-of_z (write (λ j. numerator_of c.args.denominator c.args.w c.args.pivot_row c.args.column c.args.words.now (j / m) (c.args.first-column + j % m)) c.loop-k.numbers k v lt I e, length-set c.loop-k.numbers k v ∙ c.loop-k.invariant.1)
+    simp to_z-of_z (write (λ j. numerator_of c.args.denominator c.args.w c.args.pivot_row c.args.column c.args.words.now (j / m) (c.args.first_column + j % m)) c.loop-k.numbers k v lt I e, length-set c.loop-k.numbers k v ∙ c.loop-k.invariant.1)

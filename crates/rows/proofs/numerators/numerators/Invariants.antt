@@ -6,5 +6,5 @@ use Rattle.rows.proofs.numerators.numerators.Given as goal
 -- The numerators so far are written.
 abbrev pub invariant-loop-k : goal.invariant-loop-k
 invariant-loop-k l =
-    Written (λ j. numerator_of l.denominator l.w l.pivot_row l.column l.words (j / l.m) (l.first-column + j % l.m)) l.numbers l.k
+    Written (λ j. numerator_of l.denominator l.w l.pivot_row l.column l.words (j / l.m) (l.first_column + j % l.m)) l.numbers l.k
     × (length l.numbers ≡ most_rows * most_rows)

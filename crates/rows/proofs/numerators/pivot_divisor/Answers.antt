@@ -11,8 +11,8 @@ use Rattle.rows.specs.Pivots.{most_rows, numerator_of}
 use Rattle.rows.proofs.Pivots.{gcd_cong, first_then_cong}
 use Rattle.rows.proofs.numerators.pivot_divisor.Goals as goal
 
-pub slice-bounds-divisor-end : goal.slice-bounds-divisor-end
-slice-bounds-divisor-end c = omega (arith, mul-le c.args.m c.args.m most_rows most_rows c.requires.rows.0 c.requires.rows.0)
+pub slice_bounds-divisor-end : goal.slice_bounds-divisor-end
+slice_bounds-divisor-end c = omega (arith, mul-le c.args.m c.args.m most_rows most_rows c.requires.rows.0 c.requires.rows.0)
 
 pub divisor-requires : goal.divisor-requires
 divisor-requires c =
@@ -33,7 +33,7 @@ returns c =
     let h3 : SFits w64 c.product-first.result = search rules in
     let e : c.product-first.result ≡ c.args.denominator *ℤ t = simp to_z-of_z at c.product-first.ensures in
     let h4 : SFits w64 c.divisor.result = search rules in
-    let F : ℕ → ℤ = λ k. numerator_of c.args.denominator c.args.w c.args.pivot_row c.args.column c.args.words.now (k / m) (c.args.first-column + k % m) in
+    let F : ℕ → ℤ = λ k. numerator_of c.args.denominator c.args.w c.args.pivot_row c.args.column c.args.words.now (k / m) (c.args.first_column + k % m) in
     let s : m * m ≤ length xs = omega (arith, mul-le m m most_rows most_rows c.requires.rows.0 c.requires.rows.0) in
     let l = length-take-le (m * m) xs s in
     let G : Gcd (suc (m * m)) (first_then (c.args.denominator *ℤ t) (entries (take (m * m) xs))) c.divisor.result = simp (sub-zero, l, e) at (simp to_z-of_z at c.divisor.ensures.greatest) in

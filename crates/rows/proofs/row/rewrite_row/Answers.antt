@@ -6,15 +6,15 @@ use Rattle.rows.specs.Rewrites.{rewritten}
 use Rattle.rows.proofs.Progress.{step}
 use Rattle.rows.proofs.row.rewrite_row.Goals as goal
 
-pub returns-in-err-row : goal.returns-in-err-row
-returns-in-err-row c =
+pub returns-in_err-row : goal.returns-in_err-row
+returns-in_err-row c =
     let h1 = c.ranges.by in let h2 = c.ranges.divisor in
     let h3 : SFits w64 (entries c.args.row.now c.args.column) = search rules in
     let h4 : SFits w64 (entries c.loop-j.row c.loop-j.j) = search rules in
     let h5 : SFits w64 (entries c.args.pivot.now c.loop-j.j) = search rules in
     let same = c.loop-j.invariant.1 c.loop-j.j (omega arith) in
-    let e = simp to_z-of_z at c.in-err-row.ensures in
-    MatchResult-from_err c.from-residual.result _ _ c.from-residual.ensures.0 (λ y. record { place = c.loop-j.j; inside = omega arith; out = rw (← same) e })
+    let e = simp to_z-of_z at c.in_err-row.ensures in
+    MatchResult-from_err c.from_residual.result _ _ c.from_residual.ensures.0 (λ y. record { place = c.loop-j.j; inside = omega arith; out = rw (← same) e })
 
 pub loop-j-preserved : goal.loop-j-preserved
 loop-j-preserved c =
@@ -22,8 +22,8 @@ loop-j-preserved c =
     let h3 : SFits w64 (entries c.args.row.now c.args.column) = search rules in
     let h4 : SFits w64 (entries c.loop-j.row c.loop-j.j) = search rules in
     let h5 : SFits w64 (entries c.args.pivot.now c.loop-j.j) = search rules in
-    let h6 : SFits w64 c.in-ok-row.field-0 = search rules in
+    let h6 : SFits w64 c.in_ok-row.field-0 = search rules in
     let same = c.loop-j.invariant.1 c.loop-j.j (omega arith) in
-    let e = simp to_z-of_z at c.in-ok-row.ensures in
+    let e = simp to_z-of_z at c.in_ok-row.ensures in
     let I = simp to_z-of_z at c.loop-j.invariant in
-    simp to_z-of_z (step (λ k. rewritten c.args.by c.args.divisor (entries c.args.row.now c.args.column) (entries c.args.row.now k) (entries c.args.pivot.now k)) c.args.row.now c.loop-j.row c.loop-j.j c.in-ok-row.field-0 (omega arith) I (rw (← same) e.0) e.1)
+    simp to_z-of_z (step (λ k. rewritten c.args.by c.args.divisor (entries c.args.row.now c.args.column) (entries c.args.row.now k) (entries c.args.pivot.now k)) c.args.row.now c.loop-j.row c.loop-j.j c.in_ok-row.field-0 (omega arith) I (rw (← same) e.0) e.1)

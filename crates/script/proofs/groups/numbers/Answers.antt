@@ -5,7 +5,7 @@ use Rattle.script.proofs.groups.numbers.Goals as goal
 
 pub loop-i-preserved : goal.loop-i-preserved
 loop-i-preserved c =
-    let items = c.in-ok-push.ensures.items in
+    let items = c.in_ok-push.ensures.items in
     let old = vec_items c.loop-i.numbers in
     let fits : SFits w64 c.from.result = search rules in
     let value : to_z w64 (of_z w64 c.from.result) ≡ c.payload.result = search rules in (

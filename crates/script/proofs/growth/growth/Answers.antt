@@ -22,11 +22,11 @@ returns-then-not-examined c =
     let k = c.loop-k.k in
     mapped
     (stops rs k _ c.loop-k-test.true c.loop-k.invariant.0 (sym c.if-not-examined.ensures))
-    (λ e p. c.in-default.not-Refused e (here rs k _ c.loop-k-test.true (Refused e) p))
+    (λ e p. c.in_default.not-Refused e (here rs k _ c.loop-k-test.true (Refused e) p))
     c.loop-k.invariant.1
 
-pub overflow-add-corners : goal.overflow-add-corners
-overflow-add-corners c =
+pub overflow_add-corners : goal.overflow_add-corners
+overflow_add-corners c =
     let rs = c.args.replies.now in
     let few : count_by lists (take c.loop-k.k rs) ≤ length (take c.loop-k.k rs) = count_by-le-length lists (take c.loop-k.k rs) in
     omega (arith, c.loop-k.invariant.1, length-take c.loop-k.k rs)

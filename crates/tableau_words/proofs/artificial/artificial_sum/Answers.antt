@@ -12,25 +12,25 @@ unfolding sum
 loop-row-init c = (refl, omega arith)
 
 -- The size of the new sum.
-added : (c : goal.After-artificial-number-sum) → nat_abs (c.loop-row.sum +ℤ c.artificial-number-sum.result) ≤ (c.loop-row.row + 1) * width
+added : (c : goal.After-artificial_number-sum) → nat_abs (c.loop-row.sum +ℤ c.artificial_number-sum.result) ≤ (c.loop-row.row + 1) * width
 added c =
     let I = simp c.loop-row.sum-is at c.loop-row.invariant in
-    omega (arith, abs_add c.loop-row.sum c.artificial-number-sum.result, c.artificial-number-sum.ensures.width, I.1)
+    omega (arith, abs_add c.loop-row.sum c.artificial_number-sum.result, c.artificial_number-sum.ensures.width, I.1)
 
-pub overflow-add-sum : goal.overflow-add-sum
-overflow-add-sum c =
-    let h : SFits w64 c.artificial-number-sum.result = search rules in
+pub overflow_add-sum : goal.overflow_add-sum
+overflow_add-sum c =
+    let h : SFits w64 c.artificial_number-sum.result = search rules in
     let e = c.loop-row.sum-is in
-    simp (to_z-of_z, e) (fits_64 (c.loop-row.sum +ℤ c.artificial-number-sum.result) (omega (arith, added c, c.requires.counts.1)))
+    simp (to_z-of_z, e) (fits_64 (c.loop-row.sum +ℤ c.artificial_number-sum.result) (omega (arith, added c, c.requires.counts.1)))
 
 pub loop-row-preserved : goal.loop-row-preserved
 unfolding sum
 loop-row-preserved c =
-    let h : SFits w64 c.artificial-number-sum.result = search rules in
+    let h : SFits w64 c.artificial_number-sum.result = search rules in
     let e = c.loop-row.sum-is in
     let I = simp e at c.loop-row.invariant in
-    let f : SFits w64 (c.loop-row.sum +ℤ c.artificial-number-sum.result) = fits_64 (c.loop-row.sum +ℤ c.artificial-number-sum.result) (omega (arith, added c, c.requires.counts.1)) in
-    simp (to_z-of_z, e, add-one) (ap₂ ◌+ℤ◌ I.0 c.artificial-number-sum.ensures.value, omega (arith, added c))
+    let f : SFits w64 (c.loop-row.sum +ℤ c.artificial_number-sum.result) = fits_64 (c.loop-row.sum +ℤ c.artificial_number-sum.result) (omega (arith, added c, c.requires.counts.1)) in
+    simp (to_z-of_z, e, add-one) (ap₂ ◌+ℤ◌ I.0 c.artificial_number-sum.ensures.value, omega (arith, added c))
 
 pub returns : goal.returns
 returns c =

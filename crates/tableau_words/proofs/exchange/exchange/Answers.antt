@@ -24,16 +24,16 @@ pivot-requires c =
       positive = (rw first c.requires.positive.0, rw rest c.requires.positive.1);
     }
 
-pub returns-in-err-next : goal.returns-in-err-next
-returns-in-err-next c =
+pub returns-in_err-next : goal.returns-in_err-next
+returns-in_err-next c =
     let ws = c.args.words.now in
-    let r = err_from_is_err_and c.from-residual.result c.from-residual.ensures.1 in
+    let r = err_from_is_err_and c.from_residual.result c.from_residual.ensures.1 in
     let fits : SFits w64 (get_or ws 0 (pos 0)) = search rules in
-    rw r.1 (refused_with c.args.shape ws c.args.row c.args.limit _ c.requires.places.0 c.requires.places.1 c.requires.positive.1 (to_z-of_z w64 _ fits) c.in-err-next.ensures)
+    rw r.1 (refused_with c.args.shape ws c.args.row c.args.limit _ c.requires.places.0 c.requires.places.1 c.requires.positive.1 (to_z-of_z w64 _ fits) c.in_err-next.ensures)
 
 pub returns : goal.returns
 returns c =
     let ws = c.args.words.now in
     let fits : SFits w64 (get_or ws 0 (pos 0)) = search rules in
-    let next : SFits w64 c.in-ok-next.next = search rules in
-    accepted_with c.args.shape ws c.pivot.new.words c.args.row c.args.limit _ c.in-ok-next.next _ _ c.requires.places.0 c.requires.places.1 c.requires.positive.1 (to_z-of_z w64 _ fits) (to_z-of_z w64 _ next) (let few : c.args.limit < 16 = omega (arith, c.requires.places.1, c.requires.counts.3) in omega (arith, ints)) c.in-ok-next.ensures
+    let next : SFits w64 c.in_ok-next.next = search rules in
+    accepted_with c.args.shape ws c.pivot.new.words c.args.row c.args.limit _ c.in_ok-next.next _ _ c.requires.places.0 c.requires.places.1 c.requires.positive.1 (to_z-of_z w64 _ fits) (to_z-of_z w64 _ next) (let few : c.args.limit < 16 = omega (arith, c.requires.places.1, c.requires.counts.3) in omega (arith, ints)) c.in_ok-next.ensures

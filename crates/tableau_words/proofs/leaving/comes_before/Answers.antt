@@ -28,8 +28,8 @@ returns-in-Before c =
     let ranked = parts_compared xs one two c.args.list s t c.compare.result (omega arith) (omega arith) (simp to_z-of_z at c.compare.ensures) in
     rw c.in-Before.is at ranked
 
-pub returns-in-default : goal.returns-in-default
-returns-in-default c =
+pub returns-in_default : goal.returns-in_default
+returns-in_default c =
     let xs = c.args.rows.now in
     let one = c.args.first * c.args.width in
     let two = c.args.second * c.args.width in
@@ -38,4 +38,4 @@ returns-in-default c =
     let fits_s : SFits w64 s = search rules in
     let fits_t : SFits w64 t = search rules in
     let ranked = parts_compared xs one two c.args.list s t c.compare.result (omega arith) (omega arith) (simp to_z-of_z at c.compare.ensures) in
-    not_before c.args.list (cell c.args.width xs c.args.first) (cell c.args.width xs c.args.second) s t c.compare.result ranked c.in-default.not-Before
+    not_before c.args.list (cell c.args.width xs c.args.first) (cell c.args.width xs c.args.second) s t c.compare.result ranked c.in_default.not-Before

@@ -7,10 +7,10 @@ use Rattle.rows.proofs.Grid.{row_in}
 use Rattle.tableau_words.specs.Layout.{row_width, row_count, limit_column, first_row}
 use Rattle.tableau_words.proofs.LeastRatio.{SoFar, LeastOf, passed, opened, taken, kept, answered}
 use Rattle.tableau_words.proofs.leaving.leaving.Goals as goal
-use Rattle.tableau_words.proofs.leaving.leaving.Goals.{then-rows-row-gt0+in-Some+then-comes-before, then-rows-row-gt0+in-Some+else-comes-before, then-rows-row-gt0+in-None, else-rows-row-gt0}
+use Rattle.tableau_words.proofs.leaving.leaving.Goals.{then-rows-row-gt0+in-Some+then-comes_before, then-rows-row-gt0+in-Some+else-comes_before, then-rows-row-gt0+in-None, else-rows-row-gt0}
 
-pub comes-before-requires : goal.comes-before-requires
-comes-before-requires c =
+pub comes_before-requires : goal.comes_before-requires
+comes_before-requires c =
     let ws = c.args.words.now in
     let s = c.args.shape in
     let rest = take_rest ws (first_row s) in
@@ -32,8 +32,8 @@ loop-row-preserved c =
     let fits : SFits w64 (cell w xs row column) = search rules in
     let same = to_z-of_z w64 (cell w xs row column) fits in
     elim c.if-rows-row-gt0.branch [
-      | then-rows-row-gt0+in-Some+then-comes-before v ↦ rw v.leaves-is (taken w n column xs row v.in-Some.least (omega (arith, ints, same, v.if-rows-row-gt0.true)) (rw v.in-Some.is at c.loop-row.invariant) v.if-comes-before.ensures)
-      | then-rows-row-gt0+in-Some+else-comes-before v ↦ rw v.leaves-is (kept w n column xs row v.in-Some.least (rw v.in-Some.is at c.loop-row.invariant) v.if-comes-before.ensures)
+      | then-rows-row-gt0+in-Some+then-comes_before v ↦ rw v.leaves-is (taken w n column xs row v.in-Some.least (omega (arith, ints, same, v.if-rows-row-gt0.true)) (rw v.in-Some.is at c.loop-row.invariant) v.if-comes_before.ensures)
+      | then-rows-row-gt0+in-Some+else-comes_before v ↦ rw v.leaves-is (kept w n column xs row v.in-Some.least (rw v.in-Some.is at c.loop-row.invariant) v.if-comes_before.ensures)
       | then-rows-row-gt0+in-None v ↦ rw v.leaves-is (opened w n column xs row (omega (arith, ints, same, v.if-rows-row-gt0.true)) (rw v.in-None.is at c.loop-row.invariant))
       | else-rows-row-gt0 v ↦ rw v.leaves-is (passed w n column xs row c.loop-row.leaves (omega (arith, ints, same, v.if-rows-row-gt0.false)) c.loop-row.invariant)
     ]

@@ -5,5 +5,5 @@ use Rattle.tableau_words.proofs.slack.slack.Goals as goal
 
 pub returns : goal.returns
 returns c =
-    let fits : SFits w64 c.at-readings.result = search rules in
-    simp to_z-of_z (answered c.args.shape c.args.readings.now c.args.limit c.args.words.now c.at-readings.result c.requires.place c.at-readings.ensures.value)
+    let fits : SFits w64 c.at_readings.result = search rules in
+    simp to_z-of_z (answered c.args.shape c.args.readings.now c.args.limit c.args.words.now c.at_readings.result c.requires.place c.at_readings.ensures.value)

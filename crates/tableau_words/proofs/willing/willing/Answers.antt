@@ -40,4 +40,4 @@ returns-in-None c =
     let fits : SFits w64 z = search rules in
     let same = to_z-of_z w64 z fits in
     let h : z ≡ pos 0 = omega (arith, ints, same, c.if-left-lt0.false, c.if-left-gt0.false) in
-    none_below_answered s θ j ws z c.slack-left.ensures h (rw c.in-None.is at c.first-below.ensures)
+    none_below_answered s θ j ws z c.slack-left.ensures h (rw c.in-None.is at c.first_below.ensures)

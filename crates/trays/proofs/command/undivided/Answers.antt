@@ -11,8 +11,8 @@ pub loop-i-preserved : goal.loop-i-preserved
 loop-i-preserved c =
     let f = λ (k : ℕ). neg_ℤ (column_at c.args.shape c.args.readings.now c.args.words.now (1 + k)) in
     let i = c.loop-i.i in
-    let fits : SFits w64 c.law-at-readings.result = search rules in
-    simp to_z-of_z (ap (λ xs. set xs i c.law-at-readings.result) c.loop-i.invariant.0 ∙ ap (set (filled (first i f)) i) c.law-at-readings.ensures ∙ vector_more f i (omega arith), length-set c.loop-i.numbers i c.law-at-readings.result ∙ c.loop-i.invariant.1)
+    let fits : SFits w64 c.law_at_readings.result = search rules in
+    simp to_z-of_z (ap (λ xs. set xs i c.law_at_readings.result) c.loop-i.invariant.0 ∙ ap (set (filled (first i f)) i) c.law_at_readings.ensures ∙ vector_more f i (omega arith), length-set c.loop-i.numbers i c.law_at_readings.result ∙ c.loop-i.invariant.1)
 
 pub returns : goal.returns
 returns c =
@@ -21,5 +21,5 @@ returns c =
     let f = λ (k : ℕ). neg_ℤ (column_at c.args.shape c.args.readings.now ws (1 + k)) in
     let n : c.loop-i.i ≡ m = omega arith in
     let first_fits : SFits w64 (entries ws 0) = search rules in
-    let fits : SFits w64 c.law-at-readings-2.result = search rules in
-    simp to_z-of_z (ap (λ xs. set (set xs m (entries ws 0)) (m + 1) c.law-at-readings-2.result) (rw n at c.loop-i.invariant.0) ∙ ap (set (set (filled (first m f)) m (entries ws 0)) (m + 1)) c.law-at-readings-2.ensures ∙ fraction_filled m f (entries ws 0) _ (omega arith))
+    let fits : SFits w64 c.law_at_readings-2.result = search rules in
+    simp to_z-of_z (ap (λ xs. set (set xs m (entries ws 0)) (m + 1) c.law_at_readings-2.result) (rw n at c.loop-i.invariant.0) ∙ ap (set (set (filled (first m f)) m (entries ws 0)) (m + 1)) c.law_at_readings-2.ensures ∙ fraction_filled m f (entries ws 0) _ (omega arith))

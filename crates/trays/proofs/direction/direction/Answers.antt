@@ -5,10 +5,10 @@ use Rattle.trays.proofs.direction.direction.Goals as goal
 
 pub loop-i-preserved : goal.loop-i-preserved
 loop-i-preserved c =
-    let z = c.artificial-sum.result in
+    let z = c.artificial_sum.result in
     let fits : SFits w64 z = search rules in
     simp to_z-of_z (
-      directed_more c.args.shape c.args.words.now c.loop-i.i c.loop-i.numbers z (omega arith) (omega arith) c.artificial-sum.ensures c.loop-i.invariant.0,
+      directed_more c.args.shape c.args.words.now c.loop-i.i c.loop-i.numbers z (omega arith) (omega arith) c.artificial_sum.ensures c.loop-i.invariant.0,
       length-set c.loop-i.numbers c.loop-i.i z ∙ c.loop-i.invariant.1,
     )
 

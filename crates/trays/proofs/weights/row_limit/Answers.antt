@@ -3,8 +3,8 @@ use Rattle.std.proofs.lemmas.Int.{to_z-of_z}
 use Rattle.exact.specs.Vectors.{entries}
 use Rattle.trays.proofs.weights.row_limit.Goals as goal
 
-pub overflow-cast-result : goal.overflow-cast-result
-overflow-cast-result c =
+pub overflow_cast-result : goal.overflow_cast-result
+overflow_cast-result c =
     let z = entries c.args.words.now (1 + c.args.row) in
     let k = c.requires.known c.args.row c.requires.place in
     let fits : SFits w64 z = search rules in

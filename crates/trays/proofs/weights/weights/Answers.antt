@@ -7,11 +7,11 @@ use Rattle.trays.proofs.weights.weights.Goals as goal
 pub loop-row-preserved : goal.loop-row-preserved
 loop-row-preserved c =
     let xs = c.loop-row.numbers in
-    let l = c.row-limit.result in
-    let z = c.row-weight.result in
+    let l = c.row_limit.result in
+    let z = c.row_weight.result in
     let fits : SFits w64 z = search rules in
     simp to_z-of_z (
-      weighed_row c.args.shape c.args.words.now c.args.limit c.loop-row.row xs l z (omega arith) c.row-limit.ensures.limit c.row-weight.ensures (omega (arith, c.loop-row.invariant.1)) c.loop-row.invariant.0,
+      weighed_row c.args.shape c.args.words.now c.args.limit c.loop-row.row xs l z (omega arith) c.row_limit.ensures.limit c.row_weight.ensures (omega (arith, c.loop-row.invariant.1)) c.loop-row.invariant.0,
       length-set xs l z ∙ c.loop-row.invariant.1,
     )
 

@@ -15,12 +15,12 @@ returns-then-at-words c =
     let taken : c.loop-taken._taken < span c.args.first = omega arith in
     short_here c.args.words.now c.args.from c.args.first c.requires.stands c.requires.more c.loop-taken._taken taken c.loop-taken.at c.loop-taken.state i.0 i.3 i.2 (omega (arith, i.1))
 
-pub returns-in-err-step : goal.returns-in-err-step
-returns-in-err-step c =
+pub returns-in_err-step : goal.returns-in_err-step
+returns-in_err-step c =
     let i = c.loop-taken.invariant in
-    let taken : c.loop-taken.-taken < span c.args.first = omega arith in
-    let p = err_from_is_err_and c.from-residual.result c.from-residual.ensures.1 in
-    rw (p.1, p.2) (refused_here c.args.words.now c.args.from c.args.first c.requires.stands c.requires.more c.loop-taken.-taken taken c.loop-taken.at c.loop-taken.state i.0 i.3 i.2 (omega arith) c.in-err-step.ensures)
+    let taken : c.loop-taken._taken < span c.args.first = omega arith in
+    let p = err_from_is_err_and c.from_residual.result c.from_residual.ensures.1 in
+    rw (p.1, p.2) (refused_here c.args.words.now c.args.from c.args.first c.requires.stands c.requires.more c.loop-taken._taken taken c.loop-taken.at c.loop-taken.state i.0 i.3 i.2 (omega arith) c.in_err-step.ensures)
 
 pub loop-taken-preserved : goal.loop-taken-preserved
 loop-taken-preserved c =

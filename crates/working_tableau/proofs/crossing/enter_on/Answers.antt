@@ -13,8 +13,8 @@ use Rattle.working_tableau.proofs.crossing.enter_on.Goals as goal
 pub enter-requires : goal.enter-requires
 enter-requires c =
     let s = c.args.shape in
-    let n = c.tableau-size-size.result in
-    let used = used_words s c.args.words.now n c.tableau-size-size.ensures.value in
+    let n = c.tableau_size-size.result in
+    let used = used_words s c.args.words.now n c.tableau_size-size.ensures.value in
     record { counts = c.requires.counts; place = c.requires.place; holding = corner_holding s (take (n - 0) c.args.words.now) (subst (SomeCorner s) (sym used) c.requires.corner) }
 
 pub unreachable-requires : goal.unreachable-requires
@@ -23,7 +23,7 @@ unreachable-requires c =
     let ws = c.args.words.now in
     let j = c.args.limit in
     let after = c.enter.new.words in
-    let used = used_words s ws c.tableau-size-size.result c.tableau-size-size.ensures.value in
+    let used = used_words s ws c.tableau_size-size.result c.tableau_size-size.ensures.value in
     never_without_row s j (take (size s) ws) after c.requires.corner c.requires.row (subst (λ before. EnterAnswer s j before after NoRow) used c.in-NoRow.ensures)
 
 pub returns-in-Across : goal.returns-in-Across
@@ -31,9 +31,9 @@ returns-in-Across c =
     let s = c.args.shape in
     let ws = c.args.words.now in
     let j = c.args.limit in
-    let n = c.tableau-size-size.result in
-    let l = c.in-Across.-left in
+    let n = c.tableau_size-size.result in
+    let l = c.in-Across._left in
     let after = c.enter.new.words in
-    let used = used_words s ws n c.tableau-size-size.ensures.value in
+    let used = used_words s ws n c.tableau_size-size.ensures.value in
     let long : length after ≡ size s = c.enter.auto.words ∙ ap length used ∙ holding_long s (take (size s) ws) (corner_holding s (take (size s) ws) c.requires.corner) in
     gone_across s j (take (size s) ws) after l (subst (λ before. EnterAnswer s j before after (Across l)) used c.in-Across.ensures) _ (length_front ws after (n - 0) c.enter.auto.words ∙ c.told-words) (take_at after (drop (n - 0) ws) (size s) long)

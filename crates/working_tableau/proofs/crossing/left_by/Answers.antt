@@ -12,18 +12,18 @@ leaving-requires c =
     let h = corner_holding s ws c.requires.corner in
     record { counts = c.requires.counts; place = c.requires.place; long = holding_long s ws h; widths = holding_widths s ws h c.requires.counts }
 
-pub returns-in-err-row : goal.returns-in-err-row
-returns-in-err-row c =
+pub returns-in_err-row : goal.returns-in_err-row
+returns-in_err-row c =
     let s = c.args.shape in
     let ws = c.args.words.now in
-    subst (LeftAnswer s c.args.limit ws) (sym c.from-residual.ensures) (none_left s c.args.limit ws c.in-err-row.ensures)
+    subst (LeftAnswer s c.args.limit ws) (sym c.from_residual.ensures) (none_left s c.args.limit ws c.in_err-row.ensures)
 
-pub row-limit-requires : goal.row-limit-requires
-row-limit-requires c =
+pub row_limit-requires : goal.row_limit-requires
+row_limit-requires c =
     let s = c.args.shape in
     let ws = c.args.words.now in
     let h = corner_holding s ws c.requires.corner in
-    record { counts = c.requires.counts; place = leaving_inside s ws h c.args.limit c.in-ok-row.row c.in-ok-row.ensures; holding = h }
+    record { counts = c.requires.counts; place = leaving_inside s ws h c.args.limit c.in_ok-row.row c.in_ok-row.ensures; holding = h }
 
 pub returns : goal.returns
-returns c = limit_left c.args.shape c.args.limit c.args.words.now c.in-ok-row.row c.row-limit.result c.in-ok-row.ensures c.row-limit.ensures
+returns c = limit_left c.args.shape c.args.limit c.args.words.now c.in_ok-row.row c.row_limit.result c.in_ok-row.ensures c.row_limit.ensures

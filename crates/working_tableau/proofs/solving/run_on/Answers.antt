@@ -10,7 +10,7 @@ conclude-requires c =
     let ws = c.args.words.now in
     let after = c.run-ran.new.words in
     let notes = contents c.run-ran.new.trail in
-    let R = used_run s c.args.reading.now ws after (room c.args.trail.now) notes c.run-ran.result c.tableau-size-size.result c.tableau-size-size.ensures.value c.run-ran.ensures.run in
+    let R = used_run s c.args.reading.now ws after (room c.args.trail.now) notes c.run-ran.result c.tableau_size-size.result c.tableau_size-size.ensures.value c.run-ran.ensures.run in
     record { counts = c.requires.counts; reading = c.requires.reading; corner = run_kept s c.args.reading.now (take (size s) ws) after (room c.args.trail.now) notes c.run-ran.result c.requires.corner R; tray = c.requires.tray }
 
 pub returns : goal.returns
@@ -19,7 +19,7 @@ returns c =
     let ws = c.args.words.now in
     let after = c.run-ran.new.words in
     let notes = contents c.run-ran.new.trail in
-    let R = used_run s c.args.reading.now ws after (room c.args.trail.now) notes c.run-ran.result c.tableau-size-size.result c.tableau-size-size.ensures.value c.run-ran.ensures.run in
+    let R = used_run s c.args.reading.now ws after (room c.args.trail.now) notes c.run-ran.result c.tableau_size-size.result c.tableau_size-size.ensures.value c.run-ran.ensures.run in
     record {
       room = c.run-ran.ensures.room;
       answer = solve_answered s c.args.reading.now (take (size s) ws) after c.args.tray.now c.conclude.new.tray (room c.args.trail.now) notes c.run-ran.result c.conclude.result R c.conclude.ensures;

@@ -16,8 +16,8 @@ direction-requires c =
     let h = searching s ws (subst (KeptSearch s ws) c.in-Ended.is c.requires.corner) in
     record { counts = c.requires.counts; long = holding_long s ws h; widths = holding_widths s ws h c.requires.counts }
 
-pub artificial-left-requires : goal.artificial-left-requires
-artificial-left-requires c =
+pub artificial_left-requires : goal.artificial_left-requires
+artificial_left-requires c =
     let s = c.args.shape in
     let ws = c.args.words.now in
     record { counts = c.requires.counts; long = holding_long s ws (searching s ws (subst (KeptSearch s ws) c.in-Ended.is c.requires.corner)) }
@@ -26,21 +26,21 @@ pub mask-requires : goal.mask-requires
 mask-requires c =
     let s = c.args.shape in
     let ws = c.args.words.now in
-    record { counts = c.requires.counts; holding = searching s ws (subst (KeptSearch s ws) c.in-Ended.is c.requires.corner); own = c.if-artificial-left.ensures }
+    record { counts = c.requires.counts; holding = searching s ws (subst (KeptSearch s ws) c.in-Ended.is c.requires.corner); own = c.if-artificial_left.ensures }
 
-pub returns-then-artificial-left : goal.returns-then-artificial-left
-returns-then-artificial-left c = λ p Y e H.
+pub returns-then-artificial_left : goal.returns-then-artificial_left
+returns-then-artificial_left c = λ p Y e H.
     let ws = c.args.words.now in
     let holds = subst (SearchUnless p Y ws) c.in-Ended.is H in
-    let some : SomeArtificial (shape_of p) ws = subst (λ (c : Shape). SomeArtificial c ws) e c.if-artificial-left.ensures in
+    let some : SomeArtificial (shape_of p) ws = subst (λ (c : Shape). SomeArtificial c ws) e c.if-artificial_left.ensures in
     subst (StartConcluded p Y ws c.args.tray.now c.lay.new.tray c.args.searched.exchanges _) (sym c.in-Ended.is)
     (unbounded (some_artificial_left p Y ws holds some) (c.lay.ensures ∙ ap (λ xs. laid xs c.args.tray.now) (c.direction.ensures p Y e holds.held)))
 
-pub returns-else-artificial-left : goal.returns-else-artificial-left
-returns-else-artificial-left c = λ p Y e H.
+pub returns-else-artificial_left : goal.returns-else-artificial_left
+returns-else-artificial_left c = λ p Y e H.
     let ws = c.args.words.now in
     let holds = subst (SearchUnless p Y ws) c.in-Ended.is H in
-    let own : OwnLimits (shape_of p) ws = subst (λ (c : Shape). OwnLimits c ws) e c.if-artificial-left.ensures in
+    let own : OwnLimits (shape_of p) ws = subst (λ (c : Shape). OwnLimits c ws) e c.if-artificial_left.ensures in
     let (X, same, held) = own_corner p Y ws holds own in
     subst (StartConcluded p Y ws c.args.tray.now c.args.tray.now c.args.searched.exchanges _) (sym c.in-Ended.is)
     (corner X same held (c.mask.ensures p X e held) refl refl)

@@ -10,8 +10,8 @@ use Rattle.working_tableau.proofs.starting.find_first.Goals as goal
 pub search-searched-requires : goal.search-searched-requires
 search-searched-requires c = record { counts = c.shape-shape.ensures.bounds; corner = first_kept c.shape-shape.result (meaning_of c.args.table.now) c.shape-shape.ensures.counts c.fill.new.words c.fill.ensures }
 
-pub conclude-start-requires : goal.conclude-start-requires
-conclude-start-requires c = record {
+pub conclude_start-requires : goal.conclude_start-requires
+conclude_start-requires c = record {
   counts = c.shape-shape.ensures.bounds;
   corner = search_kept c.shape-shape.result (meaning_of c.args.table.now) c.shape-shape.ensures.counts c.fill.new.words c.fill.ensures c.search-searched.new.words c.search-searched.result c.search-searched.ensures;
   tray = c.requires.tray;
@@ -22,10 +22,10 @@ returns c =
     let p = meaning_of c.args.table.now in
     let after = c.search-searched.new.words in
     let long : length after ≡ size (shape_of p) = c.search-searched.auto.words ∙ c.fill.ensures.held.long in
-    let told = first_told c.shape-shape.result p c.shape-shape.ensures.counts c.fill.new.words c.fill.ensures after c.search-searched.result c.search-searched.ensures c.args.tray.now c.conclude-start.new.tray c.conclude-start.result c.conclude-start.ensures in
+    let told = first_told c.shape-shape.result p c.shape-shape.ensures.counts c.fill.new.words c.fill.ensures after c.search-searched.result c.search-searched.ensures c.args.tray.now c.conclude_start.new.tray c.conclude_start.result c.conclude_start.ensures in
     let ws = c.args.words.now in
-    let used : c.tableau-size-size.result ≡ size (shape_of p) = c.tableau-size-size.ensures.value ∙ ap size c.shape-shape.ensures.counts in
+    let used : c.tableau_size-size.result ≡ size (shape_of p) = c.tableau_size-size.ensures.value ∙ ap size c.shape-shape.ensures.counts in
     record {
-      long = length-append after (drop (c.tableau-size-size.result - 0) ws) ∙ omega (arith, length-drop (c.tableau-size-size.result - 0) ws, c.told-words, c.tableau-size-size.ensures.most);
-      corner = subst (λ ws. FirstCorner p ws c.args.tray.now c.conclude-start.new.tray c.conclude-start.result) (sym (take_at after _ (size (shape_of p)) long)) told;
+      long = length-append after (drop (c.tableau_size-size.result - 0) ws) ∙ omega (arith, length-drop (c.tableau_size-size.result - 0) ws, c.told-words, c.tableau_size-size.ensures.most);
+      corner = subst (λ ws. FirstCorner p ws c.args.tray.now c.conclude_start.new.tray c.conclude_start.result) (sym (take_at after _ (size (shape_of p)) long)) told;
     }

@@ -4,8 +4,8 @@ use Rattle.clutch_map.specs.Listed.{most_records}
 use Rattle.clutch_map.proofs.Seen.{few_listed}
 use Rattle.clutch_map.proofs.map.Map.is_finished.Goals as goal
 
-pub overflow-mul-result : goal.overflow-mul-result
-overflow-mul-result c =
+pub overflow_mul-result : goal.overflow_mul-result
+overflow_mul-result c =
     let few = few_listed c.args.self.now in
     let bounds = c.shape-shape.ensures.bounds in
-    omega (arith, mul-le-mul {n₁ = c.len.result} {m₁ = c.saturating-sub.result} {n₂ = most_records} {m₂ = most_limits} (omega arith) (omega arith))
+    omega (arith, mul-le-mul {n₁ = c.len.result} {m₁ = c.saturating_sub.result} {n₂ = most_records} {m₂ = most_limits} (omega arith) (omega arith))

@@ -9,31 +9,31 @@ use Rattle.plant.proofs.Questions.{handed_out}
 use Rattle.plant.proofs.RangedRows.{of_kept, of_no_row, range_slope, no_slope, asked_below}
 use Rattle.plant.proofs.ranged_plant.RangedPlant.slope.Goals as goal
 
-pub returns-in-err-from-zero : goal.returns-in-err-from-zero
-returns-in-err-from-zero g c =
+pub returns-in_err-from_zero : goal.returns-in_err-from_zero
+returns-in_err-from_zero g c =
     let r = c.args.self.now in
     let p = g.P.Plant.meaning r.below in
-    c.from-residual.ensures ∙ sym (no_slope (ranged_by r.table p) (ranged_bounded p (g.P.Plant.bounded r.below) r.table) c.args.j c.args.k c.in-err-from-zero.ensures)
+    c.from_residual.ensures ∙ sym (no_slope (ranged_by r.table p) (ranged_bounded p (g.P.Plant.bounded r.below) r.table) c.args.j c.args.k c.in_err-from_zero.ensures)
 
-pub returns-in-err-row : goal.returns-in-err-row
-returns-in-err-row g c =
+pub returns-in_err-row : goal.returns-in_err-row
+returns-in_err-row g c =
     let r = c.args.self.now in
     let t = r.table in
-    c.from-residual-in-err-row.ensures ∙ sym (of_no_row (g.P.Plant.meaning r.below) t.shape t.lows t.highs c.args.j (λ l. at_place l.slopes c.args.k) c.in-err-row.ensures)
+    c.from_residual-in_err-row.ensures ∙ sym (of_no_row (g.P.Plant.meaning r.below) t.shape t.lows t.highs c.args.j (λ l. at_place l.slopes c.args.k) c.in_err-row.ensures)
 
 pub returns-in-Kept : goal.returns-in-Kept
 returns-in-Kept g c =
     let r = c.args.self.now in
     let p = g.P.Plant.meaning r.below in
     let t = r.table in
-    let row : RowAt t.shape c.args.j (Some Kept) = subst (λ o. RowAt t.shape c.args.j (Some o)) c.in-Kept.is c.in-ok-row.ensures in
-    let k = c.in-ok-from-zero.field-0 in
-    let f = c.in-ok-from-zero.ensures in
-    let fits : SFits w32 c.unwrap-or.result = search rules in
-    handed_out c.unwrap-or.result _ _ fits (c.unwrap-or.ensures ∙ ap or_zero (c.slope.ensures ∙ sym (asked_below (slope_of p) c.args.j c.args.k k row.0 f.0)))
+    let row : RowAt t.shape c.args.j (Some Kept) = subst (λ o. RowAt t.shape c.args.j (Some o)) c.in-Kept.is c.in_ok-row.ensures in
+    let k = c.in_ok-from_zero.field-0 in
+    let f = c.in_ok-from_zero.ensures in
+    let fits : SFits w32 c.unwrap_or.result = search rules in
+    handed_out c.unwrap_or.result _ _ fits (c.unwrap_or.ensures ∙ ap or_zero (c.slope.ensures ∙ sym (asked_below (slope_of p) c.args.j c.args.k k row.0 f.0)))
     (of_kept p t.shape t.lows t.highs c.args.j (λ l. at_place l.slopes c.args.k) row ∙ table_found t.shape.readings _ c.args.k k f)
 
 pub returns-in-AtMost : goal.returns-in-AtMost
 returns-in-AtMost g c =
     let t = c.args.self.now.table in
-    sym (range_slope (g.P.Plant.meaning c.args.self.now.below) t.shape t.lows t.highs c.args.j c.args.k _ c.in-ok-row.field-0 c.in-ok-row.ensures c.in-AtMost.is c.in-ok-from-zero.ensures)
+    sym (range_slope (g.P.Plant.meaning c.args.self.now.below) t.shape t.lows t.highs c.args.j c.args.k _ c.in_ok-row.field-0 c.in_ok-row.ensures c.in-AtMost.is c.in_ok-from_zero.ensures)

@@ -4,8 +4,8 @@ use Rattle.plant_table.specs.Tabled.{meaning_of}
 use Rattle.plant_table.proofs.Zeros.{zeros_are_values}
 use Rattle.plant_table.proofs.table.Table.blank.Goals as goal
 
-pub invariant-of-result : goal.invariant-of-result
-invariant-of-result c =
+pub invariant_of-result : goal.invariant_of-result
+invariant_of-result c =
     ((omega arith, omega arith, omega arith, omega arith, omega arith), ((refl, refl, refl, refl), (zeros_are_values gain_room, (zeros_are_values coefficient_room, (zeros_are_values constant_room, (zeros_are_values slope_room, tt))))))
 
 pub returns : goal.returns

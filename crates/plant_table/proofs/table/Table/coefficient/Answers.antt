@@ -5,14 +5,14 @@ use Rattle.plant_table.proofs.Lookups.{kept_coefficient, coefficient_inside}
 use Rattle.plant_table.proofs.Widened.{widened, widened_value}
 use Rattle.plant_table.proofs.table.Table.coefficient.Goals as goal
 
-pub overflow-mul-limit : goal.overflow-mul-limit
-overflow-mul-limit c = omega (arith, coefficient_inside c.args.self.now c.args.limit c.args.command c.requires.limit c.requires.command)
+pub overflow_mul-limit : goal.overflow_mul-limit
+overflow_mul-limit c = omega (arith, coefficient_inside c.args.self.now c.args.limit c.args.command c.requires.limit c.requires.command)
 
-pub overflow-add-limit : goal.overflow-add-limit
-overflow-add-limit c = omega (arith, coefficient_inside c.args.self.now c.args.limit c.args.command c.requires.limit c.requires.command)
+pub overflow_add-limit : goal.overflow_add-limit
+overflow_add-limit c = omega (arith, coefficient_inside c.args.self.now c.args.limit c.args.command c.requires.limit c.requires.command)
 
-pub offset-bounds-self-limit : goal.offset-bounds-self-limit
-offset-bounds-self-limit c = omega (arith, coefficient_inside c.args.self.now c.args.limit c.args.command c.requires.limit c.requires.command)
+pub offset_bounds-self-limit : goal.offset_bounds-self-limit
+offset_bounds-self-limit c = omega (arith, coefficient_inside c.args.self.now c.args.limit c.args.command c.requires.limit c.requires.command)
 
 pub bounds-self-limit : goal.bounds-self-limit
 bounds-self-limit c = omega (arith, coefficient_inside c.args.self.now c.args.limit c.args.command c.requires.limit c.requires.command)

@@ -4,8 +4,8 @@ use Rattle.plant_table.proofs.Lookups.{kept_gain, gain_inside}
 use Rattle.plant_table.proofs.Widened.{widened, widened_value}
 use Rattle.plant_table.proofs.table.Table.gain.Goals as goal
 
-pub offset-bounds-self-command : goal.offset-bounds-self-command
-offset-bounds-self-command c = omega (arith, gain_inside c.args.self.now c.args.command c.requires)
+pub offset_bounds-self-command : goal.offset_bounds-self-command
+offset_bounds-self-command c = omega (arith, gain_inside c.args.self.now c.args.command c.requires)
 
 pub bounds-self-command : goal.bounds-self-command
 bounds-self-command c = omega (arith, gain_inside c.args.self.now c.args.command c.requires)

@@ -7,20 +7,20 @@ use Rattle.plant_table.proofs.Lookups.{kept_constant, kept_slope, constant_insid
 use Rattle.plant_table.proofs.Widened.{widened, widened_value}
 use Rattle.plant_table.proofs.table.Table.rate.Goals as goal
 
-pub offset-bounds-self-limit : goal.offset-bounds-self-limit
-offset-bounds-self-limit c = omega (arith, constant_inside c.args.self.now c.args.limit c.requires.limit)
+pub offset_bounds-self-limit : goal.offset_bounds-self-limit
+offset_bounds-self-limit c = omega (arith, constant_inside c.args.self.now c.args.limit c.requires.limit)
 
 pub bounds-self-limit : goal.bounds-self-limit
 bounds-self-limit c = constant_inside c.args.self.now c.args.limit c.requires.limit
 
-pub overflow-mul-limit : goal.overflow-mul-limit
-overflow-mul-limit c = omega (arith, constant_inside c.args.self.now c.args.limit c.requires.limit)
+pub overflow_mul-limit : goal.overflow_mul-limit
+overflow_mul-limit c = omega (arith, constant_inside c.args.self.now c.args.limit c.requires.limit)
 
-pub overflow-add-limit : goal.overflow-add-limit
-overflow-add-limit c = omega (arith, slope_inside c.args.self.now (c.args.k - 1) c.args.limit (omega arith) c.requires.limit)
+pub overflow_add-limit : goal.overflow_add-limit
+overflow_add-limit c = omega (arith, slope_inside c.args.self.now (c.args.k - 1) c.args.limit (omega arith) c.requires.limit)
 
-pub offset-bounds-self-limit-else-k-eq0 : goal.offset-bounds-self-limit-else-k-eq0
-offset-bounds-self-limit-else-k-eq0 c = omega (arith, slope_inside c.args.self.now (c.args.k - 1) c.args.limit (omega arith) c.requires.limit)
+pub offset_bounds-self-limit-else-k-eq0 : goal.offset_bounds-self-limit-else-k-eq0
+offset_bounds-self-limit-else-k-eq0 c = omega (arith, slope_inside c.args.self.now (c.args.k - 1) c.args.limit (omega arith) c.requires.limit)
 
 pub bounds-self-limit-else-k-eq0 : goal.bounds-self-limit-else-k-eq0
 bounds-self-limit-else-k-eq0 c = slope_inside c.args.self.now (c.args.k - 1) c.args.limit (omega arith) c.requires.limit

@@ -24,7 +24,7 @@ returns-in-Done c =
     let fits : InBounds s = subst StateFits e S.fit in
     counted r.words.now r.at s c.new.result c.new.ensures fits (laid_out r.words.now r.at r.state s e S all) all (done_shape r.words.now r.at r.state s e S)
 
-pub returns-in-default : goal.returns-in-default
-returns-in-default c =
+pub returns-in_default : goal.returns-in_default
+returns-in_default c =
     let r = c.args.self.now in
-    unread r.words.now r.at r.state (reader_stands r) (not_done r.state c.in-default.not-Done)
+    unread r.words.now r.at r.state (reader_stands r) (not_done r.state c.in_default.not-Done)

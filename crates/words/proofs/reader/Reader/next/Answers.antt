@@ -17,10 +17,10 @@ returns-then-at-words c =
     let S : Stands ws (r.at + c.span.result) c.in_ok-state.state = rw at c.in_ok-state.ensures in
     record { words = refl; handed = (follows_close ws (r.at + c.span.result) c.in_ok-state.state c.in-Done-state.field-0 c.in-Done-state.is S c.if-at-words.true, refl) }
 
-pub part-at-requires : goal.part-at-requires
-part-at-requires c =
+pub part_at-requires : goal.part_at-requires
+part_at-requires c =
     let r = c.args.self.now in
-    record { stands = reader_stands r; more = not_done r.state c.in-default.not-Done; long = c.in-ok-state.ensures.within }
+    record { stands = reader_stands r; more = not_done r.state c.in_default.not-Done; long = c.in_ok-state.ensures.within }
 
 pub returns : goal.returns
 returns c =

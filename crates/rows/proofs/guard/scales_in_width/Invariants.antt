@@ -8,6 +8,6 @@ use Rattle.rows.proofs.guard.scales_in_width.Given as goal
 abbrev pub invariant-loop-i : goal.invariant-loop-i
 invariant-loop-i g l =
     (l.guard.saved ≡ l.initial.guard.saved)
-    × (l.guard.words.name ≡ l.initial.guard.words.name)
+    × (l.guard.words.ghost_name ≡ l.initial.guard.words.ghost_name)
     × (length l.guard.words.now ≡ length l.initial.guard.words.now)
     × Progress (λ k. scaled l.by l.divisor (entries l.initial.guard.words.now k)) l.initial.guard.words.now l.guard.words.now l.i

@@ -1,5 +1,5 @@
 use Rattle.std.proofs.Common.{◌≡◌, ◌+◌, vec_len}
-use Rattle.fulmarlead.proofs.orders.orders.Given as goal
+use Rattle.map_program.proofs.orders.orders.Given as goal
 
 abbrev pub invariant-loop : goal.invariant-loop
 invariant-loop l = vec_len l.orders ≡ 1 + l.index

@@ -1,5 +1,6 @@
 // Judges the plant on standard input and prints one line: its counts, or the refusal.
 #![tactic(auto)]
+
 use input::bytes::{MOST_WORDS, WORD_BYTES, words_from};
 use input::judge::judge;
 use input::line::Line;

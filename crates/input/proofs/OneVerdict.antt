@@ -1,5 +1,5 @@
 -- Every input gets one verdict.
-use Rattle.std.proofs.Common.{◌≡◌, ℕ, ◌+◌, ◌*◌, ◌<◌, List, length, get_or, take, ℤ, pos, Ok, Err, Result, sym, refl, ap, ◌∙◌, subst, ⊎_elim, arith}
+use Rattle.std.proofs.Common.{◌≡◌, ℕ, ◌+◌, List, length, take, ℤ, pos, Ok, Err, Result, sym, ap, ◌∙◌, subst, ⊎_elim, arith}
 use Rattle.std.proofs.lemmas.List.{ext_get_or}
 use Rattle.std.proofs.lemmas.Bool.{cases_order}
 use Rattle.words.specs.declared.counts.Shape.{Shape}
@@ -11,7 +11,7 @@ use Rattle.plant.specs.Ranges.{with_ranges, RangeFaulty}
 use Rattle.plant.proofs.Describing.{one_plant, described_is_laid_out}
 use Rattle.plant.proofs.RangeVerdicts.{one_range_refusal, no_refusal_where_fitting}
 use Rattle.input.specs.Split.{PlantEnds, IsRange, RangeWords, RangeWordsFaulty, missing, other_kind, Payloads}
-use Rattle.input.specs.Judged.{RangesAre, RangeVerdict, no_range, wrong_words, wrong_range, ranged, PlantVerdict, no_plant, plant, Judged, HasOneVerdict}
+use Rattle.input.specs.Judged.{RangesAre, RangeVerdict, no_range, wrong_words, wrong_range, ranged, PlantVerdict, no_plant, plant, HasOneVerdict}
 
 module _ (ws : List ℕ) where
   ends_once : (n k : ℕ) → PlantEnds ws n → PlantEnds ws k → n ≡ k

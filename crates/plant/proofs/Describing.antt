@@ -1,27 +1,27 @@
 -- Words that describe a plant are laid out as a plant's, and say that plant.
-use Rattle.std.proofs.Common.{◌≡◌, ℕ, suc, ◌+◌, ◌-◌, ◌*◌, ◌/◌, ◌%◌, ◌^◌, ◌<◌, ◌≤◌, Bool, true, false, cond, eqb, leb, List, length, get_or, ℤ, pos, nat_abs, is_some, Some, None, sym, refl, ap, ◌∙◌, subst, ⊎_elim, suc-mul, arith}
+use Rattle.std.proofs.Common.{◌≡◌, ℕ, ◌+◌, ◌-◌, ◌*◌, ◌/◌, ◌%◌, ◌^◌, ◌<◌, ◌≤◌, Bool, true, false, cond, eqb, List, length, get_or, ℤ, pos, nat_abs, is_some, Some, sym, refl, ap, ◌∙◌, subst, ⊎_elim, arith}
 use Rattle.std.specs.List.{slice_get}
 use Rattle.std.proofs.lemmas.List.FromFn.{fill_by_all}
 use Rattle.std.proofs.lemmas.Option.{slice_get-get_or}
 use Rattle.std.proofs.lemmas.Int.{ints}
-use Rattle.std.proofs.lemmas.Bool.{eqb-true, eq-eqb, le-leb, cases_lt, cases_eq}
+use Rattle.std.proofs.lemmas.Bool.{eq-eqb, le-leb, cases_lt, cases_eq}
 use Rattle.std.proofs.lemmas.Bool.Decides.{nat_tests}
 use Rattle.std.proofs.lemmas.Nat.{div_below, mod_below, div-add-mod'}
 use Rattle.words.specs.Bounds.{Value, largest_value, most_commands, most_limits, most_readings}
-use Rattle.words.specs.Words.{kind_bits, bits_of_payload, payload, IsWord}
+use Rattle.words.specs.Words.{kind_bits, bits_of_payload, payload}
 use Rattle.words.specs.Kinds.{code}
-use Rattle.words.specs.Layout.{shape_in, spare_in, InBounds, width, limit_place, close_place, column_kind, due}
+use Rattle.words.specs.Layout.{shape_in, spare_in, width, limit_place, close_place, due}
 use Rattle.words.specs.Faults.{head_fits, value_fits, payload_fault, word_fault, unless, fault, LaidOut}
 use Rattle.words.specs.Faults as faults
 use Rattle.words.proofs.Places.{same_shape, due_gain, due_limit, due_close}
 use Rattle.words.specs.declared.counts.Shape.{Shape}
 use Rattle.words.specs.declared.kind.Kind.{Kind}
-use Rattle.words.specs.declared.kind.Kind.TheVariants.{Head, Gain, Coefficient, Constant, Slope, Close}
+use Rattle.words.specs.declared.kind.Kind.TheVariants.{Gain, Coefficient, Constant, Slope, Close}
 use Rattle.words.specs.declared.refusal.Refusal.{Refusal}
 use Rattle.words.specs.declared.refusal.Refusal.TheVariants.{Value as ValueRefused, WrongKind, Close as CloseRefused, Counts}
 use Rattle.plant.specs.Tables.{table}
-use Rattle.plant.specs.Meaning.{Limit, no_limit, Meaning, Values, Fits, Bounded, shape_of}
-use Rattle.plant.specs.Described.{StandsAt, AllStand, LimitStands, Describes, OnePlant, head_number}
+use Rattle.plant.specs.Meaning.{Limit, no_limit, Meaning, Values, shape_of}
+use Rattle.plant.specs.Described.{StandsAt, AllStand, Describes, OnePlant, head_number}
 use Rattle.plant.specs.Written.{in_bounds_or_zero, number_at, said_limit, said}
 use Rattle.plant.proofs.Saying.{close_small}
 

@@ -1,5 +1,5 @@
 -- Every plant in bounds has words that describe it.
-use Rattle.std.proofs.Common.{◌≡◌, ℕ, suc, ◌+◌, ◌-◌, ◌*◌, ◌/◌, ◌%◌, ◌^◌, ◌<◌, ◌≤◌, cond, eqb, ltb, leb, List, [], length, get_or, ℤ, pos, negsuc, ◌-ℤ◌, nat_abs, Some, None, sym, refl, ap, ◌∙◌, subst, ⊎_elim, suc-mul, arith}
+use Rattle.std.proofs.Common.{◌≡◌, ℕ, suc, ◌+◌, ◌-◌, ◌*◌, ◌/◌, ◌%◌, ◌^◌, ◌<◌, ◌≤◌, cond, eqb, ltb, leb, List, [], length, get_or, ℤ, pos, negsuc, ◌-ℤ◌, nat_abs, Some, sym, refl, ap, ◌∙◌, subst, ⊎_elim, suc-mul, arith}
 use Rattle.std.specs.List.{slice_get}
 use Rattle.std.proofs.lemmas.List.FromFn.{get_or-map-range_with_len}
 use Rattle.std.proofs.lemmas.List.{get_or_past}
@@ -8,7 +8,7 @@ use Rattle.std.proofs.lemmas.Int.{ints}
 use Rattle.std.proofs.lemmas.Bool.{lt-ltb, le-ltb, le-leb, lt-leb, eq-eqb, ne_eqb, cases_lt}
 use Rattle.std.proofs.lemmas.Nat.{div-mul-add, mod-mul-add, mul-le}
 use Rattle.words.specs.Bounds.{Value}
-use Rattle.words.specs.Words.{kind_bits, bits_of_payload, payload, IsWord}
+use Rattle.words.specs.Words.{IsWord}
 use Rattle.words.specs.Kinds.{code}
 use Rattle.words.specs.Layout.{width, limit_place, close_place}
 use Rattle.words.specs.declared.counts.Shape.{Shape}
@@ -16,7 +16,7 @@ use Rattle.words.specs.declared.kind.Kind.{Kind}
 use Rattle.words.specs.declared.kind.Kind.TheVariants.{Head, Gain, Coefficient, Constant, Slope, Close}
 use Rattle.plant.specs.Tables.{table}
 use Rattle.plant.specs.TableLaws.{length_table, by_test}
-use Rattle.plant.specs.Meaning.{Limit, no_limit, Meaning, Values, Fits, Bounded, shape_of}
+use Rattle.plant.specs.Meaning.{Limit, no_limit, Meaning, Values, Bounded, shape_of}
 use Rattle.plant.specs.Described.{StandsAt, LimitStands, Describes, EveryPlant, head_number}
 use Rattle.plant.specs.WrittenBounds.{zero_is_value}
 use Rattle.plant.proofs.Saying.{close_small}

@@ -1,7 +1,6 @@
 -- What a question about a table of limits answers.
-use Rattle.std.proofs.Common.{◌≡◌, ℕ, ◌+◌, ◌<◌, List, ℤ, Some, None, Option, sym, refl, ap, ◌∙◌, subst, w32, SFits, to_z, of_z}
+use Rattle.std.proofs.Common.{◌≡◌, ℕ, ℤ, Some, None, Option, sym, ap, ◌∙◌, w32, SFits, to_z, of_z}
 use Rattle.std.proofs.lemmas.Int.{to_z-of_z}
-use Rattle.words.specs.declared.counts.Shape.{Shape}
 use Rattle.plant.specs.Tables.{at_place, table, within, Found}
 use Rattle.plant.specs.TableLaws.{table_found, table_absent}
 use Rattle.plant.specs.Meaning.{Limit}

@@ -1,10 +1,10 @@
 -- Lows and highs earn one refusal, or none and then they fit.
-use Rattle.std.proofs.Common.{◌≡◌, ℕ, ◌+◌, ◌<◌, List, ℤ, sym, refl, ap, ◌∙◌, ⊎_elim, arith}
+use Rattle.std.proofs.Common.{◌≡◌, ℕ, ◌<◌, List, ℤ, refl, ap, ⊎_elim, arith}
 use Rattle.std.proofs.lemmas.Bool.{cases_order}
 use Rattle.words.specs.declared.counts.Shape.{Shape}
 use Rattle.words.specs.declared.refusal.Refusal.{Refusal}
 use Rattle.words.specs.declared.refusal.Refusal.TheVariants.{Value as ValueRefused, Range}
-use Rattle.plant.specs.Ranges.{FirstNotValue, RangesFit, RangeFaulty, low_not_value, high_not_value, counts_wrong, crossed}
+use Rattle.plant.specs.Ranges.{RangesFit, RangeFaulty, low_not_value, high_not_value, counts_wrong, crossed}
 
 -- Of two places of which each is the first where P fails, neither comes first.
 first_is_one : (P : ℕ → Type 0) (k l : ℕ) → (P k → ⊥) → ((i : ℕ) → i < k → P i) → (P l → ⊥) → ((i : ℕ) → i < l → P i) → k ≡ l

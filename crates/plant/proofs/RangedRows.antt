@@ -1,5 +1,5 @@
 -- Which limit of a ranged plant stands at a place, and what it answers.
-use Rattle.std.proofs.Common.{◌≡◌, ℕ, ◌+◌, ◌-◌, ◌*◌, ◌<◌, ◌≤◌, ◌⊎◌, List, ◌++◌, length, get_or, ℤ, pos, negsuc, Some, None, Option, sym, refl, ap, ◌∙◌, subst, ⊎_elim, arith}
+use Rattle.std.proofs.Common.{◌≡◌, ℕ, ◌+◌, ◌-◌, ◌≤◌, ◌⊎◌, List, length, get_or, ℤ, pos, negsuc, Some, None, Option, sym, refl, ap, ◌∙◌, subst, ⊎_elim, arith}
 use Rattle.std.specs.List.{slice_get}
 use Rattle.std.proofs.lemmas.Option.{slice_get_past}
 use Rattle.std.proofs.lemmas.Bool.{ne_eqb, eq-eqb}
@@ -8,7 +8,7 @@ use Rattle.plant.specs.Tables.{at_place, within, table, Found}
 use Rattle.plant.specs.TableLaws.{length_table, nth_table, nth_front, nth_back, at_absent, table_found}
 use Rattle.plant.specs.Meaning.{Limit, Meaning, Bounded, coefficient_of, slope_of}
 use Rattle.plant.specs.Ranges.{alone, at_most, at_least, range_limits}
-use Rattle.plant.specs.Ranged.{or_zero, kept_limit, ranged, RowAt}
+use Rattle.plant.specs.Ranged.{kept_limit, ranged, RowAt}
 use Rattle.plant.specs.RangedBounds.{length_ranged, at_some}
 use Rattle.plant.specs.declared.row.Row.{Row}
 use Rattle.plant.specs.declared.row.Row.TheVariants.{Kept, AtMost, AtLeast}

@@ -1,6 +1,5 @@
 -- With a table that range answered, a ranged plant is the plant below with the ranges.
-use Rattle.std.proofs.Common.{◌≡◌, ℕ, ◌+◌, ◌-◌, ◌<◌, ◌≤◌, List, ◌++◌, length, get_or, ℤ, pos, Some, None, Ok, Err, Option, Result, sym, refl, ap, ◌∙◌, subst, arith, MatchResult}
-use Rattle.std.specs.List.{slice_get}
+use Rattle.std.proofs.Common.{◌≡◌, ℕ, ◌+◌, ◌-◌, ◌<◌, List, ◌++◌, length, get_or, ℤ, pos, Some, Ok, Err, Result, sym, refl, ap, ◌∙◌, subst, arith, MatchResult}
 use Rattle.std.proofs.lemmas.List.FromFn.{fill_by_all, get_or-map-range_with_len}
 use Rattle.std.proofs.lemmas.Option.{slice_get-get_or}
 use Rattle.std.proofs.lemmas.Bool.{ne_eqb}
@@ -8,7 +7,7 @@ use Rattle.words.specs.declared.counts.Shape.{Shape}
 use Rattle.words.specs.declared.refusal.Refusal.{Refusal}
 use Rattle.plant.specs.Tables.{at_place, within, table}
 use Rattle.plant.specs.TableLaws.{length_table}
-use Rattle.plant.specs.Meaning.{Limit, Meaning, Bounded, no_limit, shape_of, gain_of, coefficient_of}
+use Rattle.plant.specs.Meaning.{Meaning, Bounded, no_limit, shape_of}
 use Rattle.plant.specs.Ranges.{at_most, at_least, range_limits, with_ranges, RangeFaulty}
 use Rattle.plant.specs.Ranged.{or_zero, kept_limit, ranged, ranged_by, Tabled, RangeAnswer}
 use Rattle.plant.specs.declared.range_table.RangeTable.{RangeTable}

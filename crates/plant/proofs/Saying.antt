@@ -1,25 +1,23 @@
 -- Words that are laid out as a plant's describe the plant that they say.
-use Rattle.std.proofs.Common.{◌≡◌, ℕ, suc, ◌+◌, ◌-◌, ◌*◌, ◌/◌, ◌%◌, ◌^◌, ◌<◌, ◌≤◌, Bool, true, false, cond, eqb, leb, List, length, get_or, ℤ, pos, nat_abs, is_some, Some, None, Option, sym, refl, ap, ◌∙◌, subst, ⊎_elim, suc-mul, arith}
+use Rattle.std.proofs.Common.{◌≡◌, ℕ, suc, ◌+◌, ◌^◌, ◌<◌, false, cond, eqb, List, length, get_or, pos, is_some, Some, sym, refl, ap, ◌∙◌, subst, ⊎_elim, suc-mul, arith}
 use Rattle.std.specs.List.{slice_get}
-use Rattle.std.proofs.lemmas.Int.{ints}
-use Rattle.std.proofs.lemmas.Bool.{eqb-true, leb-true, lt-ltb, le-ltb, eq-eqb, ne_eqb, cases_lt}
+use Rattle.std.proofs.lemmas.Bool.{eqb-true, lt-ltb, le-ltb, eq-eqb, ne_eqb, cases_lt}
 use Rattle.std.proofs.lemmas.Nat.{mul-le, mod-pow-add}
-use Rattle.words.specs.Words.{kind_bits, bits_of_payload, payload, IsWord}
+use Rattle.words.specs.Words.{kind_bits, bits_of_payload, payload}
 use Rattle.words.specs.Kinds.{code}
-use Rattle.words.specs.Layout.{shape_in, spare_in, InBounds, HeadFits, width, limit_place, close_place, column_kind, due}
+use Rattle.words.specs.Layout.{shape_in, spare_in, InBounds, width, limit_place, close_place, column_kind, due}
 use Rattle.words.specs.Faults.{value_fits, payload_fault, word_fault, unless, fault, LaidOut}
 use Rattle.words.specs.Faults as faults
-use Rattle.words.proofs.Places.{passed, due_gain, due_limit, due_close, head_right, head_bounds}
+use Rattle.words.proofs.Places.{passed, due_gain, due_limit, due_close, head_right}
 use Rattle.words.specs.declared.counts.Shape.{Shape}
 use Rattle.words.specs.declared.kind.Kind.{Kind}
 use Rattle.words.specs.declared.kind.Kind.TheVariants.{Head, Gain, Coefficient, Constant, Slope, Close}
-use Rattle.words.specs.declared.refusal.Refusal.{Refusal}
 use Rattle.words.specs.declared.refusal.Refusal.TheVariants.{Value as ValueRefused, WrongKind, Close as CloseRefused, Counts}
 use Rattle.plant.specs.Tables.{table}
 use Rattle.plant.specs.TableLaws.{length_table, nth_table, past_table}
-use Rattle.plant.specs.Meaning.{Limit, Meaning, shape_of}
-use Rattle.plant.specs.Described.{StandsAt, AllStand, LimitStands, Describes, head_number}
-use Rattle.plant.specs.Written.{in_bounds_or_zero, number_at, said_limit, said}
+use Rattle.plant.specs.Meaning.{shape_of}
+use Rattle.plant.specs.Described.{StandsAt, LimitStands, Describes, head_number}
+use Rattle.plant.specs.Written.{number_at, said_limit, said}
 use Rattle.plant.specs.WrittenBounds.{said_bounded}
 
 pub said_shape : (ws : List ℕ) (c : Shape) → shape_of (said ws c) ≡ c

@@ -1,5 +1,5 @@
 -- The meaning of a ranged plant over any plant below, by the counts in its own table: a number absent below is 0.
-use Rattle.std.specs.Prelude.{◌≡◌, ℕ, ◌+◌, ◌-◌, ◌*◌, ◌<◌, ◌≤◌, ◌⊎◌, List, ◌++◌, length, ℤ, pos, Some, None, Ok, Err, Option, Result, slice_index_or}
+use Rattle.std.specs.Prelude.{◌≡◌, ℕ, ◌+◌, ◌*◌, ◌<◌, ◌≤◌, ◌⊎◌, List, ◌++◌, ℤ, pos, Some, None, Ok, Err, Option, Result, slice_index_or}
 use Rattle.std.specs.Option.{unwrap_or}
 use Rattle.words.specs.declared.counts.Shape.{Shape}
 use Rattle.words.specs.declared.refusal.Refusal.{Refusal}

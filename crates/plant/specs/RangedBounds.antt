@@ -1,6 +1,6 @@
 -- A ranged plant is in bounds over every plant below, by its own table.
-use Rattle.std.specs.Prelude.{◌≡◌, ℕ, ◌+◌, ◌-◌, ◌*◌, ◌<◌, ◌≤◌, List, ◌++◌, length, ℤ, pos, negsuc, neg_ℤ, ◌≤ℤ◌, Some, None, Option, ◌==◌, refl}
-use Rattle.std.proofs.Common.{sym, ap, subst, ◌∙◌, ⊎_elim, arith, length-append}
+use Rattle.std.specs.Prelude.{◌≡◌, ℕ, ◌+◌, ◌-◌, ◌*◌, ◌≤◌, List, ◌++◌, length, ℤ, pos, negsuc, neg_ℤ, Some, None, Option, ◌==◌, refl}
+use Rattle.std.proofs.Common.{sym, ◌∙◌, ⊎_elim, arith, length-append}
 use Rattle.std.specs.List.{slice_get}
 use Rattle.std.proofs.lemmas.Int.{ints}
 use Rattle.std.proofs.lemmas.Bool.{cases_lt, cases_eq, eq-eqb, ne_eqb}
@@ -8,9 +8,9 @@ use Rattle.words.specs.Bounds.{Value}
 use Rattle.words.specs.declared.counts.Shape.{Shape}
 use Rattle.plant.specs.Tables.{at_place, within, table}
 use Rattle.plant.specs.TableLaws.{length_table, each_of_table, nth_front, nth_back, by_test}
-use Rattle.plant.specs.Meaning.{Limit, Meaning, Values, Fits, Bounded, shape_of, gain_of, coefficient_of, constant_of, slope_of}
+use Rattle.plant.specs.Meaning.{Limit, Meaning, Values, Fits, Bounded, shape_of, gain_of}
 use Rattle.plant.specs.WrittenBounds.{zero_is_value}
-use Rattle.plant.specs.Ranges.{alone, at_most, at_least, range_limits}
+use Rattle.plant.specs.Ranges.{alone, range_limits}
 use Rattle.plant.specs.Ranged.{or_zero, kept_limit, ranged, ranged_by}
 use Rattle.plant.specs.declared.range_table.RangeTable.{RangeTable}
 

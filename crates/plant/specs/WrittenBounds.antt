@@ -1,5 +1,5 @@
 -- A written-out plant is in bounds, whatever its words.
-use Rattle.std.specs.Prelude.{◌≡◌, ℕ, ◌+◌, ◌≤◌, Bool, true, false, cond, List, ℤ, pos, ◌≤ℤ◌, nat_le, slice_index, unsigned_abs, refl}
+use Rattle.std.specs.Prelude.{ℕ, ◌+◌, ◌≤◌, List, ℤ, pos, nat_le, slice_index, unsigned_abs}
 use Rattle.std.proofs.Common.{⊎_elim, arith}
 use Rattle.std.proofs.lemmas.Int.{ints}
 use Rattle.std.proofs.lemmas.Bool.{leb-true, cases_Bool}
@@ -7,7 +7,7 @@ use Rattle.words.specs.Bounds.{Value, largest_value}
 use Rattle.words.specs.Words.{payload}
 use Rattle.words.specs.Layout.{InBounds, limit_place}
 use Rattle.words.specs.declared.counts.Shape.{Shape}
-use Rattle.plant.specs.Meaning.{Fits, Bounded, Values}
+use Rattle.plant.specs.Meaning.{Fits, Bounded}
 use Rattle.plant.specs.Written.{in_bounds_or_zero, number_at, said_limit, said}
 use Rattle.plant.specs.TableLaws.{length_table, each_of_table}
 use Rattle.plant.specs.declared.written.Written.{Written}

@@ -1,5 +1,5 @@
 -- The search for a first corner, from the basis of all artificial limits.
-use Rattle.std.specs.Prelude.{ℕ, suc, ◌+◌, ◌<◌, ◌≤◌, ◌≡◌, ℤ, pos, ◌<ℤ◌, ◌≤ℤ◌}
+use Rattle.std.specs.Prelude.{ℕ, suc, ◌+◌, ◌<◌, ◌≡◌, ℤ, pos, ◌<ℤ◌, ◌≤ℤ◌}
 use Rattle.exact.specs.Vectors.{dot}
 use Rattle.exact.specs.Lists.{Before}
 use Rattle.plant.specs.Meaning.{Meaning}

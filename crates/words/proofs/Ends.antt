@@ -1,9 +1,9 @@
 -- What a reader knows where a part begins and where the words end.
-use Rattle.std.proofs.Common.{◌≡◌, ℕ, ◌+◌, ◌-◌, ◌<◌, ◌≤◌, true, false, List, length, take, drop, sym, refl, ap, ◌∙◌, subst, arith, length-drop, length-take}
+use Rattle.std.proofs.Common.{◌≡◌, ℕ, ◌+◌, ◌-◌, ◌<◌, ◌≤◌, false, List, length, take, drop, refl, ap, ◌∙◌, subst, arith, length-drop, length-take}
 use Rattle.std.proofs.lemmas.Bool.{eqb-true}
 use Rattle.words.specs.Layout.{width, limit_place, close_place}
-use Rattle.words.specs.Faults.{shape_of, RightBefore, LaidOut, Faulty, too_long}
-use Rattle.words.specs.Steps.{opens, done, span, shape_told, Stands}
+use Rattle.words.specs.Faults.{shape_of, LaidOut, Faulty, too_long}
+use Rattle.words.specs.Steps.{done, span, Stands}
 use Rattle.words.specs.Parts.{part_of}
 use Rattle.words.proofs.Places.{same_shape, limits_left, before_close}
 use Rattle.words.specs.declared.counts.Shape.{Shape}

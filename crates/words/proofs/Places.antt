@@ -1,16 +1,15 @@
 -- The state in the middle of a part, and the kind that is due there.
-use Rattle.std.proofs.Common.{◌≡◌, ℕ, zero, suc, ◌+◌, ◌-◌, ◌*◌, ◌%◌, ◌<◌, ◌≤◌, Bool, true, false, cond, ◌&&◌, eqb, ltb, leb, List, length, get_or, is_some, Some, None, Option, sym, refl, ap, ◌∙◌, subst, ⊎_elim, suc-mul, zero-mul, arith, below_more}
+use Rattle.std.proofs.Common.{◌≡◌, ℕ, suc, ◌+◌, ◌-◌, ◌*◌, ◌%◌, ◌<◌, ◌≤◌, Bool, true, false, cond, eqb, ltb, List, length, get_or, is_some, Some, None, Option, sym, refl, ap, ◌∙◌, ⊎_elim, suc-mul, zero-mul, arith, below_more}
 use Rattle.std.proofs.lemmas.Nat.{mod-mul-add, mul-le}
-use Rattle.std.proofs.lemmas.Bool.{lt-ltb, le-ltb, le-leb, lt-leb, eq-eqb, ne_eqb, leb-true, eqb-true, and_parts, cases_lt, cases_eq}
+use Rattle.std.proofs.lemmas.Bool.{lt-ltb, le-ltb, le-leb, lt-leb, eq-eqb, ne_eqb, eqb-true, and_parts, cases_lt}
 use Rattle.std.proofs.lemmas.Bool.Decides.{nat_tests}
-use Rattle.words.specs.Layout.{shape_in, InBounds, HeadFits, width, limit_place, close_place, column_kind, due}
+use Rattle.words.specs.Layout.{shape_in, HeadFits, width, limit_place, close_place, column_kind, due}
 use Rattle.words.specs.Faults.{head_fits, fault, word_fault, shape_of, RightBefore, Faulty, wrong_word, too_short}
 use Rattle.words.specs.declared.refusal.Refusal.{Refusal}
 use Rattle.words.specs.declared.refusal.Refusal.TheVariants.{Short}
 use Rattle.words.specs.Steps.{expects, after_limit, moved, opens, done, begins, span, shape_told, least, SameShape, Stands}
 use Rattle.words.specs.declared.counts.Shape.{Shape}
-use Rattle.words.specs.declared.kind.Kind.{Kind}
-use Rattle.words.specs.declared.kind.Kind.TheVariants.{Head as HeadKind, Gain as GainKind, Coefficient as CoefficientKind, Constant as ConstantKind, Slope as SlopeKind, Close as CloseKind}
+use Rattle.words.specs.declared.kind.Kind.TheVariants.{Gain as GainKind, Close as CloseKind}
 use Rattle.words.specs.declared.state.State.{State}
 use Rattle.words.specs.declared.state.State.TheVariants.{Head, Gain, Coefficient, Constant, Slope, Close, Done}
 

@@ -1,5 +1,5 @@
 -- A refusal can be had back from its number, its layer and its place.
-use Rattle.std.proofs.Common.{◌≡◌, ℕ, cond, eqb, sym, refl, ap, ◌∙◌}
+use Rattle.std.proofs.Common.{◌≡◌, ℕ, cond, eqb, refl}
 use Rattle.words.specs.Refusals.{number_of, layer_of, level, place_of, ToldApart}
 use Rattle.words.specs.declared.refusal.Shown.TheVariants.{ByLimit, ByMap}
 use Rattle.words.specs.declared.refusal.Refusal.{Refusal}

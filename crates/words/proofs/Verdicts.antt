@@ -1,5 +1,5 @@
 -- Words earn one refusal, or none and then they are laid out as a plant's.
-use Rattle.std.proofs.Common.{◌≡◌, ℕ, ◌+◌, ◌<◌, ◌≤◌, true, false, List, length, is_some, Some, None, Option, sym, refl, ap, ◌∙◌, ⊎_elim, arith}
+use Rattle.std.proofs.Common.{◌≡◌, ℕ, false, List, is_some, Some, Option, sym, ap, ◌∙◌, ⊎_elim, arith}
 use Rattle.std.proofs.lemmas.Bool.{cases_order}
 use Rattle.words.specs.Faults.{fault, RightBefore, LaidOut, Faulty, wrong_word, too_short, too_long}
 use Rattle.words.specs.declared.refusal.Refusal.{Refusal}

@@ -1,5 +1,5 @@
 -- The parts of a plant's words: head, gains, each limit and close.
-use Rattle.std.specs.Prelude.{◌≡◌, ℕ, ◌+◌, ◌-◌, ◌<◌, List, length, take, drop, Some, None, Ok, Err, Option, Result}
+use Rattle.std.specs.Prelude.{◌≡◌, ℕ, ◌+◌, ◌<◌, List, length, take, drop, Some, None, Ok, Err, Option, Result}
 use Rattle.words.specs.Layout.{width, limit_place, close_place}
 use Rattle.words.specs.Faults.{shape_of, RightBefore, LaidOut, Faulty}
 use Rattle.words.specs.declared.refusal.Refusal.{Refusal}

@@ -1,4 +1,4 @@
-use Rattle.std.proofs.Common.{◌≡◌, ◌*◌, take, ap, ◌∙◌, subst}
+use Rattle.std.proofs.Common.{◌*◌, take, ap, ◌∙◌, subst}
 use Rattle.std.proofs.lemmas.Result.{err_from_is_err_and}
 use Rattle.plant.specs.Meaning.{shape_of}
 use Rattle.plant.specs.Described.{Describes}

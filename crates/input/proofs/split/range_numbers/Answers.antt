@@ -1,7 +1,7 @@
-use Rattle.std.proofs.Common.{◌≡◌, ℕ, ◌+◌, ◌<◌, ◌≢◌, List, length, get_or, set, ℤ, pos, sym, ap, ◌∙◌, subst, arith, length-set, get_or-set_other, get_or-set_same, w32, SFits, to_z, of_z, rules, below_more}
+use Rattle.std.proofs.Common.{◌≡◌, ℕ, ◌+◌, ◌<◌, ◌≢◌, List, length, get_or, set, ℤ, sym, ap, ◌∙◌, subst, arith, length-set, get_or-set_other, get_or-set_same, w32, SFits, rules, below_more}
 use Rattle.std.proofs.lemmas.Int.{to_z-of_z}
 use Rattle.words.specs.Words.{payload}
-use Rattle.input.specs.Split.{missing, other_kind, IsRange, RangeWords, Payloads}
+use Rattle.input.specs.Split.{missing, other_kind, IsRange, Payloads}
 use Rattle.input.proofs.split.range_numbers.Goals as goal
 
 one_more : (ws : List ℕ) (n i at : ℕ) (zs : List ℤ) (z : ℤ) → i < length zs → at ≡ n + i → z ≡ payload (get_or ws at 0) → Payloads ws n i zs → Payloads ws n (i + 1) (set zs i z)

@@ -1,4 +1,3 @@
-use Rattle.std.proofs.Common.{◌≡◌, rules}
 use Rattle.words.proofs.Places.{same_shape}
 use Rattle.plant.specs.Meaning.{shape_of}
 use Rattle.plant.proofs.Ranging.{range_answers}

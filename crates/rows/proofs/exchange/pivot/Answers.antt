@@ -1,4 +1,4 @@
-use Rattle.std.proofs.Common.{◌≡◌, ◌+◌, ◌*◌, ◌<◌, ◌≤◌, length, mul-le-mul_right, arith, w64, SFits, rules}
+use Rattle.std.proofs.Common.{◌+◌, ◌*◌, mul-le-mul_right, arith, w64, SFits, rules}
 use Rattle.std.proofs.lemmas.Int.{ints, to_z-of_z}
 use Rattle.std.proofs.lemmas.Result.{MatchResult-from_err}
 use Rattle.exact.specs.Vectors.{entries}

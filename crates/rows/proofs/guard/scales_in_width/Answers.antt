@@ -1,5 +1,5 @@
 use Rattle.std.proofs.Common.{◌≡◌, length, ℤ, pos, ◌<ℤ◌, sym, refl, ap, ◌∙◌, arith, length-set, w64, SFits, to_z, rules}
-use Rattle.std.proofs.lemmas.Int.{ints, to_z-of_z}
+use Rattle.std.proofs.lemmas.Int.{to_z-of_z}
 use Rattle.exact.specs.Vectors.{entries}
 use Rattle.exact.proofs.Exact.{exact}
 use Rattle.rows.specs.Rewrites.{scaled}

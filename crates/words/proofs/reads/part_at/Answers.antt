@@ -1,4 +1,4 @@
-use Rattle.std.proofs.Common.{◌≡◌, refl, ap, ◌∙◌}
+use Rattle.std.proofs.Common.{refl, ap, ◌∙◌}
 use Rattle.words.specs.Steps.{span}
 use Rattle.words.proofs.Ends.{limit_part, close_part, cut, cut_length}
 use Rattle.words.proofs.reads.part_at.Goals as goal

@@ -1,6 +1,6 @@
-use Rattle.std.proofs.Common.{◌≡◌, codes, sym, ap, ◌∙◌}
+use Rattle.std.proofs.Common.{codes, sym, ap, ◌∙◌}
 use Rattle.std.proofs.Output.{has_written_of_eq}
-use Rattle.words.specs.Refusals.{number_of, layer_of, level, place_of}
+use Rattle.words.specs.Refusals.{number_of, layer_of, level}
 use Rattle.input.specs.Lines.{told, line_of}
 use Rattle.input.proofs.line.LineDisplay.fmt.Goals as goal
 

@@ -1,4 +1,4 @@
-use Rattle.std.proofs.Common.{◌≡◌, Some, None, sym, ◌∙◌, subst, w32, SFits, rules}
+use Rattle.std.proofs.Common.{Some, None, sym, ◌∙◌, subst, w32, SFits, rules}
 use Rattle.plant.specs.Tables.{at_place, Found}
 use Rattle.plant.specs.TableLaws.{table_found, table_absent}
 use Rattle.plant.proofs.Questions.{of_limit, of_none, handed_out}

@@ -1,6 +1,6 @@
-use Rattle.std.proofs.Common.{◌≡◌, ◌+◌, Some, None, sym, ap, ◌∙◌, subst, w32, SFits, rules}
+use Rattle.std.proofs.Common.{◌+◌, Some, None, sym, ap, ◌∙◌, subst, w32, SFits, rules}
 use Rattle.words.specs.Layout.{limit_place}
-use Rattle.plant.specs.Tables.{at_place, Found}
+use Rattle.plant.specs.Tables.{Found}
 use Rattle.plant.specs.Written.{number_at}
 use Rattle.plant.proofs.Questions.{of_limit, of_none, handed_out}
 use Rattle.plant.proofs.written_plant.WrittenPlant.constant.Goals as goal

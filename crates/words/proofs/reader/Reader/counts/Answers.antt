@@ -1,11 +1,10 @@
-use Rattle.std.proofs.Common.{◌≡◌, ℕ, true, List, length, Some, None, Option, sym, ap, ◌∙◌, subst, MatchOption}
+use Rattle.std.proofs.Common.{◌≡◌, ℕ, List, length, Some, None, Option, ap, ◌∙◌, subst, MatchOption}
 use Rattle.words.specs.Layout.{InBounds}
 use Rattle.words.specs.Faults.{LaidOut, shape_of}
 use Rattle.words.specs.Parts.{ReadWhole}
 use Rattle.words.specs.Steps.{StateFits}
 use Rattle.words.specs.declared.counts.Counts.{Counts}
 use Rattle.words.specs.declared.counts.Shape.{Shape}
-use Rattle.words.specs.declared.state.State.TheVariants.{Done}
 use Rattle.words.specs.Steps.{done}
 use Rattle.words.proofs.Ends.{reader_stands, not_done, unread, laid_out, done_shape}
 use Rattle.words.proofs.reader.Reader.counts.Goals as goal

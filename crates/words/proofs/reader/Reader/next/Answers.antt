@@ -1,4 +1,4 @@
-use Rattle.std.proofs.Common.{◌≡◌, ◌+◌, ◌<◌, ◌≤◌, true, false, length, sym, refl, ap, ◌∙◌, subst, arith, rules}
+use Rattle.std.proofs.Common.{◌≡◌, ◌+◌, length, sym, refl, ap, ◌∙◌, arith}
 use Rattle.words.specs.Steps.{span, done, Stands}
 use Rattle.words.proofs.Ends.{reader_stands, not_done, laid_out, follows_close, longer}
 use Rattle.words.proofs.reader.Reader.next.Goals as goal

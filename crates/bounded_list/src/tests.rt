@@ -12,7 +12,7 @@ fn fills_and_refuses(rt: HostRuntime) {
     assert!(rt; matches!(list.push(9), Err(9)));
     assert!(rt; matches!(list.get(1), Some(8)));
     assert!(rt; list.get(2).is_none());
-    assert!(rt; list.as_slice() == [7, 8]);
+    assert!(rt; list.as_slice() == [7, 8].as_slice());
 }
 
 #[test]

@@ -1,8 +1,7 @@
 -- The numbers that the rows hold after an exchange are the tableau of the basis across.
-use Rattle.std.proofs.Common.{◌≡◌, ℕ, suc, ◌+◌, ◌-◌, ◌*◌, ◌<◌, ◌≤◌, cond, eqb, leb, List, length, get_or, drop, ℤ, pos, ◌-ℤ◌, ◌*ℤ◌, neg_ℤ, nat_abs, ◌<ℤ◌, sym, refl, ap, ◌∙◌, subst, ⊎_elim, arith}
+use Rattle.std.proofs.Common.{◌≡◌, ℕ, suc, ◌+◌, ◌-◌, ◌*◌, ◌<◌, ◌≤◌, cond, eqb, List, length, drop, ℤ, pos, ◌-ℤ◌, ◌*ℤ◌, neg_ℤ, ◌<ℤ◌, sym, refl, ap, ◌∙◌, subst, ⊎_elim, arith}
 use lib.IntN.{*ℤ_comm}
 use lib.Signed.{quot_z}
-use Rattle.std.proofs.lemmas.Int.{ints}
 use Rattle.std.proofs.lemmas.Bool.{eq-eqb, ne_eqb, le-leb, lt-leb, cases_eq, cases_lt}
 use Rattle.exact.specs.Bounds.{InWidth, AllInWidth}
 use Rattle.exact.specs.Divisors.{Divides, Gcd}
@@ -19,10 +18,10 @@ use Rattle.rows.specs.Rewrites.{rewritten, scaled}
 use Rattle.tableau.specs.Basis.{Inverse, Among}
 use Rattle.tableau.specs.Exchange.{Exchanged}
 use Rattle.tableau.specs.Plants.{commands, limits}
-use Rattle.tableau.specs.Tableau.{Tableau, TableauInWidth, row_gain, entry, law, law_gain, slack_rate}
+use Rattle.tableau.specs.Tableau.{Tableau, TableauInWidth, entry, law, law_gain, slack_rate}
 use Rattle.tableau.proofs.Exchange.{exchange}
 use Rattle.tableau.proofs.Lowest.{exchanged_lowest, lowest_d}
-use Rattle.tableau_words.specs.Layout.{row_width, limit_column, row_count, first_row, size, number_at}
+use Rattle.tableau_words.specs.Layout.{row_width, limit_column, row_count, first_row, number_at}
 use Rattle.tableau_words.specs.Held.{basis_row, reading_row, Held}
 use Rattle.tableau_words.specs.Exchanges.{HoldsAcross, OutOfWidthAcross}
 use Rattle.tableau_words.proofs.Rewritten.{by_column, pivot_row, other_row, readings_row}

@@ -1,6 +1,6 @@
 -- From the rows that were rewritten to what the exchange answers.
 use borrow.Rule.Slice.PartMut.{put_mid}
-use Rattle.std.proofs.Common.{◌≡◌, ℕ, suc, ◌+◌, ◌-◌, ◌*◌, ◌<◌, ◌≤◌, cond, eqb, ◌≢◌, List, ◌++◌, length, get_or, take, drop, set, ℤ, pos, ◌<ℤ◌, sym, refl, ap, ◌∙◌, subst, ⊎_elim, arith, length-drop, length-set, get_or-set_other, get_or-set_same, rules}
+use Rattle.std.proofs.Common.{◌≡◌, ℕ, ◌+◌, ◌-◌, ◌<◌, ◌≤◌, cond, eqb, ◌≢◌, List, length, take, drop, set, ℤ, pos, ◌<ℤ◌, sym, ◌∙◌, subst, ⊎_elim, arith, length-drop, length-set, get_or-set_other, get_or-set_same, rules}
 use Rattle.std.proofs.lemmas.List.{drop-set-lt, take_rest, places, ext_get_or, get_or-drop}
 use Rattle.std.proofs.lemmas.Slice.{overwrites}
 use Rattle.std.proofs.lemmas.Bool.{eq-eqb, ne_eqb, cases_eq}

@@ -1,5 +1,5 @@
 -- The rows of artificial limits, summed.
-use Rattle.std.proofs.Common.{◌≡◌, ℕ, suc, ◌+◌, ◌*◌, ◌<◌, ◌≤◌, Bool, true, false, cond, ltb, List, ℤ, pos, ◌*ℤ◌, sym, refl, ap, ◌∙◌, subst, arith}
+use Rattle.std.proofs.Common.{◌≡◌, ℕ, ◌<◌, Bool, true, false, cond, ltb, List, ℤ, pos, ◌*ℤ◌, sym, ◌∙◌, subst}
 use lib.IntN.{zero-*ℤ}
 use Rattle.exact.specs.Vectors.{sum}
 use Rattle.exact.proofs.Ring.{one-*}

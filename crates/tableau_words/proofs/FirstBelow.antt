@@ -1,8 +1,8 @@
 -- The least limit below another, among the first rows.
-use Rattle.std.proofs.Common.{◌≡◌, ℕ, suc, ◌+◌, ◌*◌, ◌<◌, ◌≤◌, List, length, get_or, drop, ℤ, pos, ◌≤ℤ◌, ◌<ℤ◌, Some, None, Option, sym, refl, ap, ◌∙◌, subst, ⊎_elim, arith}
+use Rattle.std.proofs.Common.{◌≡◌, ℕ, ◌+◌, ◌<◌, List, get_or, drop, ℤ, pos, ◌≤ℤ◌, ◌<ℤ◌, Some, None, Option, sym, ◌∙◌, subst, ⊎_elim, arith}
 use Rattle.std.proofs.lemmas.Int.{ints}
 use Rattle.std.proofs.lemmas.Bool.{cases_lt}
-use Rattle.exact.proofs.Ring.{Order, order, below, same, above}
+use Rattle.exact.proofs.Ring.{order, below, same, above}
 use Rattle.plant.specs.Meaning.{Meaning, shape_of}
 use Rattle.rows.specs.Cells.{cell}
 use Rattle.tableau.specs.Plants.{commands}

@@ -1,8 +1,8 @@
 -- The least ratio among the first rows, and the limit that leaves.
-use Rattle.std.proofs.Common.{◌≡◌, ℕ, zero, suc, ◌+◌, ◌-◌, ◌*◌, ◌<◌, ◌≤◌, List, length, drop, ℤ, pos, ◌-ℤ◌, ◌*ℤ◌, ◌≤ℤ◌, ◌<ℤ◌, Some, None, Option, sym, refl, ap, ◌∙◌, subst, ⊎_elim, arith}
+use Rattle.std.proofs.Common.{◌≡◌, ℕ, zero, suc, ◌+◌, ◌<◌, List, drop, ℤ, pos, ◌≤ℤ◌, ◌<ℤ◌, Some, None, Option, sym, ◌∙◌, subst, ⊎_elim, arith}
 use Rattle.std.proofs.lemmas.Int.{ints}
 use Rattle.std.proofs.lemmas.Bool.{cases_lt}
-use Rattle.exact.specs.Lists.{Positive, Before}
+use Rattle.exact.specs.Lists.{Before}
 use Rattle.exact.proofs.Positive.{pos_cong, pos_not_zero, smaller}
 use Rattle.exact.proofs.Ring.{lin}
 use Rattle.plant.specs.Commands.{value}

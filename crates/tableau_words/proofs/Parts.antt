@@ -1,12 +1,11 @@
 -- Lists that begin rows, compared as the rows' numbers are.
-use Rattle.std.proofs.Common.{◌≡◌, ℕ, ◌+◌, ◌-◌, ◌*◌, ◌<◌, ◌≤◌, List, length, get_or, take, drop, ℤ, pos, ◌-ℤ◌, ◌*ℤ◌, neg_ℤ, sym, refl, ap, ◌∙◌, arith}
+use Rattle.std.proofs.Common.{◌≡◌, ℕ, ◌+◌, ◌-◌, ◌<◌, ◌≤◌, List, length, get_or, take, drop, ℤ, pos, ◌*ℤ◌, sym, refl, ap, ◌∙◌, arith}
 use Rattle.std.proofs.lemmas.List.Edits.{get_or-between, length-between}
 use Rattle.exact.specs.Bounds.{AllInWidth}
-use Rattle.exact.specs.Lists.{Positive, Before}
+use Rattle.exact.specs.Lists.{Before}
 use Rattle.exact.specs.Ranks.{Compared}
 use Rattle.exact.specs.Vectors.{entries}
 use Rattle.exact.specs.declared.order.Rank.{Rank}
-use Rattle.exact.specs.declared.order.Rank.TheVariants as Rank
 use Rattle.exact.proofs.Positive.{pos_cong, pos_not_neg, pos_not_zero}
 use Rattle.exact.proofs.Ring.{lin}
 use Rattle.exact.proofs.Sizes.{in_width_drop, in_width_take}

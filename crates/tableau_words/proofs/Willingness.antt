@@ -1,5 +1,5 @@
 -- Whether a limit is willing, from its slack and the first limit below it.
-use Rattle.std.proofs.Common.{◌≡◌, ℕ, ◌<◌, Bool, true, false, List, ℤ, pos, ◌≤ℤ◌, ◌<ℤ◌, Some, None, sym, refl, ◌∙◌, subst, ⊎_elim, arith}
+use Rattle.std.proofs.Common.{◌≡◌, ℕ, ◌<◌, Bool, true, false, List, ℤ, pos, ◌<ℤ◌, Some, None, sym, refl, ◌∙◌, subst, ⊎_elim, arith}
 use lib.Signed.{lt_z}
 use Rattle.std.proofs.lemmas.Int.{ints}
 use Rattle.std.proofs.lemmas.Bool.{cases_eq, cases_lt}
@@ -8,7 +8,7 @@ use Rattle.tableau.specs.Basis.{Inverse}
 use Rattle.tableau.specs.Plants.{commands}
 use Rattle.tableau.specs.Points.{Willing, negative, tied}
 use Rattle.words.specs.declared.counts.Shape.{Shape}
-use Rattle.tableau_words.specs.Entering.{IsFirstBelow, BelowAnswer, WillingAnswer}
+use Rattle.tableau_words.specs.Entering.{BelowAnswer, WillingAnswer}
 use Rattle.tableau_words.specs.Slacks.{slack_of, SlackAnswer}
 
 module _ (m : ℕ) (a : ℕ → ℕ → ℤ) (β : ℕ → ℕ) (D : ℤ) (U : ℕ → ℕ → ℤ) (B : Inverse m a β D U) (z : ℤ) (j : ℕ) where

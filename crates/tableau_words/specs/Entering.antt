@@ -1,7 +1,7 @@
 -- Which limits are willing to enter, read from the words of a tableau.
 use Rattle.std.specs.Prelude.{◌≡◌, ℕ, ◌<◌, Bool, true, false, List, ℤ, pos, Some, None, Option}
 use Rattle.plant.specs.Meaning.{Meaning, shape_of}
-use Rattle.tableau.specs.Plants.{commands, limits}
+use Rattle.tableau.specs.Plants.{commands}
 use Rattle.tableau.specs.Points.{Willing}
 use Rattle.tableau.specs.Tableau.{Tableau, entry}
 use Rattle.words.specs.declared.counts.Shape.{Shape}

@@ -3,4 +3,4 @@ use Rattle.corner_words.proofs.Worked.{holding}
 use Rattle.corner_words.proofs.tests.limit_2_enters_plant_k.Goals as goal
 
 pub enter-requires : goal.enter-requires
-enter-requires c = record { counts = search rules; place = omega arith; holding = holding }
+enter-requires g c = record { counts = search rules; place = omega arith; holding = holding }

@@ -3,4 +3,4 @@ use Rattle.corner_words.proofs.Worked.{holding, own_limits}
 use Rattle.corner_words.proofs.tests.mask_of_one_and_three.Goals as goal
 
 pub mask-requires : goal.mask-requires
-mask-requires c = record { counts = search rules; holding = holding; own = own_limits }
+mask-requires g c = record { counts = search rules; holding = holding; own = own_limits }

@@ -1,9 +1,8 @@
-use Rattle.std.proofs.Common.{◌≡◌, suc, ◌+◌, ◌*◌, ◌≤◌, ◌+ℤ◌, nat_abs, sym, refl, ◌∙◌, subst, ap₂, add-one, arith, w64, SFits, rules}
+use Rattle.std.proofs.Common.{◌≡◌, ◌+◌, ◌*◌, ◌≤◌, ◌+ℤ◌, nat_abs, refl, ap₂, add-one, arith, w64, SFits, rules}
 use Rattle.std.proofs.lemmas.Int.{to_z-of_z}
 use Rattle.exact.specs.Bounds.{width}
 use Rattle.exact.specs.Vectors.{sum}
 use Rattle.exact.proofs.Sizes.{abs_add, fits_64}
-use Rattle.tableau_words.specs.Artificial.{number_if_artificial}
 use Rattle.tableau_words.proofs.ArtificialSums.{summed}
 use Rattle.tableau_words.proofs.artificial.artificial_sum.Goals as goal
 

@@ -1,11 +1,9 @@
-use Rattle.std.proofs.Common.{◌≡◌, ◌+◌, ◌-◌, ◌*◌, ◌<◌, ◌≤◌, length, get_or, take, drop, pos, ◌<ℤ◌, sym, ◌∙◌, subst, arith, length-drop, w64, SFits, to_z, of_z, rules}
+use Rattle.std.proofs.Common.{◌≡◌, ◌<◌, get_or, pos, arith, length-drop, w64, SFits, to_z, of_z, rules}
 use Rattle.std.proofs.lemmas.List.{take_rest}
 use Rattle.std.proofs.lemmas.Result.{err_from_is_err_and}
 use Rattle.std.proofs.lemmas.Int.{to_z-of_z, ints}
-use Rattle.exact.specs.Bounds.{InWidth, AllInWidth}
-use Rattle.exact.proofs.Sizes.{in_width_drop, in_width_take}
-use Rattle.tableau_words.specs.Layout.{first_row, row_width, limit_column}
-use Rattle.rows.specs.Cells.{cell}
+use Rattle.exact.proofs.Sizes.{in_width_drop}
+use Rattle.tableau_words.specs.Layout.{first_row}
 use Rattle.tableau_words.proofs.Answered.{accepted_with, refused_with}
 use Rattle.tableau_words.proofs.exchange.exchange.Goals as goal
 

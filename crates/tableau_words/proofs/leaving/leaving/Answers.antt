@@ -1,11 +1,11 @@
-use Rattle.std.proofs.Common.{◌≡◌, ◌+◌, ◌-◌, ◌*◌, ◌<◌, ◌≤◌, length, take, drop, subst, arith, length-drop, w64, SFits, rules}
+use Rattle.std.proofs.Common.{◌≡◌, ◌-◌, length, take, drop, arith, length-drop, w64, SFits, rules}
 use Rattle.std.proofs.lemmas.List.{take_rest}
 use Rattle.std.proofs.lemmas.Int.{ints, to_z-of_z}
 use Rattle.rows.specs.Cells.{cell}
 use Rattle.exact.proofs.Sizes.{in_width_drop}
 use Rattle.rows.proofs.Grid.{row_in}
 use Rattle.tableau_words.specs.Layout.{row_width, row_count, limit_column, first_row}
-use Rattle.tableau_words.proofs.LeastRatio.{SoFar, LeastOf, passed, opened, taken, kept, answered}
+use Rattle.tableau_words.proofs.LeastRatio.{LeastOf, passed, opened, taken, kept, answered}
 use Rattle.tableau_words.proofs.leaving.leaving.Goals as goal
 use Rattle.tableau_words.proofs.leaving.leaving.Goals.{then-rows-row-gt0+in-Some+then-comes_before, then-rows-row-gt0+in-Some+else-comes_before, then-rows-row-gt0+in-None, else-rows-row-gt0}
 

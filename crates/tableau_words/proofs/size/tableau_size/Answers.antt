@@ -1,4 +1,4 @@
-use Rattle.std.proofs.Common.{◌+◌, ◌*◌, ◌≤◌, refl, mul-le-mul, arith, rules}
+use Rattle.std.proofs.Common.{◌+◌, ◌*◌, ◌≤◌, refl, mul-le-mul, arith}
 use Rattle.words.specs.Bounds.{most_commands, most_limits, most_readings}
 use Rattle.tableau_words.specs.Layout.{row_count, row_width}
 use Rattle.tableau_words.proofs.size.tableau_size.Goals as goal

@@ -6,8 +6,8 @@ use Rattle.tableau_words.proofs.tests.divisor_is_no_multiple_of_the_denominator.
 
 pub leaving-requires : goal.leaving-requires
 unfolding greatest_size
-leaving-requires c = record { counts = search rules; place = omega arith; long = refl; widths = checked halves refl }
+leaving-requires g c = record { counts = search rules; place = omega arith; long = refl; widths = checked halves refl }
 
 pub exchange-requires : goal.exchange-requires
 unfolding greatest_size
-exchange-requires c = record { counts = search rules; places = search rules; long = refl; widths = checked halves refl; positive = (omega (arith, ints), omega (arith, ints)) }
+exchange-requires g c = record { counts = search rules; places = search rules; long = refl; widths = checked halves refl; positive = (omega (arith, ints), omega (arith, ints)) }

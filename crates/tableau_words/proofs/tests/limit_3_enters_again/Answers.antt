@@ -6,4 +6,4 @@ use Rattle.tableau_words.proofs.tests.limit_3_enters_again.Goals as goal
 
 pub exchange-requires : goal.exchange-requires
 unfolding greatest_size
-exchange-requires c = record { counts = search rules; places = search rules; long = refl; widths = checked one_and_two refl; positive = (omega (arith, ints), omega (arith, ints)) }
+exchange-requires g c = record { counts = search rules; places = search rules; long = refl; widths = checked one_and_two refl; positive = (omega (arith, ints), omega (arith, ints)) }

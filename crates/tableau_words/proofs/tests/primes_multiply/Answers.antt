@@ -6,4 +6,4 @@ use Rattle.tableau_words.proofs.tests.primes_multiply.Goals as goal
 
 pub exchange-requires : goal.exchange-requires
 unfolding greatest_size
-exchange-requires c = record { counts = search rules; places = search rules; long = refl; widths = checked primes refl; positive = (omega (arith, ints), omega (arith, ints)) }
+exchange-requires g c = record { counts = search rules; places = search rules; long = refl; widths = checked primes refl; positive = (omega (arith, ints), omega (arith, ints)) }

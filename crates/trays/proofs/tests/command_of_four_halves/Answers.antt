@@ -5,4 +5,4 @@ use Rattle.trays.proofs.tests.command_of_four_halves.Goals as goal
 
 pub command-requires : goal.command-requires
 unfolding greatest_size
-command-requires c = record { counts = search rules; long = (refl, refl); widths = (checked (pos 2 ∷ pos 0 ∷ pos 3 ∷ pos 1 ∷ pos 2 ∷ negsuc 11 ∷ negsuc 3 ∷ pos 0 ∷ []) refl, checked [] refl); positive = omega (arith, ints) }
+command-requires g c = record { counts = search rules; long = (refl, refl); widths = (checked (pos 2 ∷ pos 0 ∷ pos 3 ∷ pos 1 ∷ pos 2 ∷ negsuc 11 ∷ negsuc 3 ∷ pos 0 ∷ []) refl, checked [] refl); positive = omega (arith, ints) }

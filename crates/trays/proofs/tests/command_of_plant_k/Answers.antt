@@ -6,4 +6,4 @@ use Rattle.trays.proofs.tests.command_of_plant_k.Goals as goal
 
 pub command-requires : goal.command-requires
 unfolding greatest_size
-command-requires c = record { counts = search rules; long = (refl, refl); widths = (checked one_and_three refl, checked (pos 0 ∷ []) refl); positive = omega (arith, ints) }
+command-requires g c = record { counts = search rules; long = (refl, refl); widths = (checked one_and_three refl, checked (pos 0 ∷ []) refl); positive = omega (arith, ints) }

@@ -5,4 +5,4 @@ use Rattle.trays.proofs.tests.direction_of_the_artificial_limit.Goals as goal
 
 pub direction-requires : goal.direction-requires
 unfolding greatest_size
-direction-requires c = record { counts = search rules; long = refl; widths = checked primes refl }
+direction-requires g c = record { counts = search rules; long = refl; widths = checked primes refl }

@@ -11,4 +11,4 @@ known (suc (suc r)) h = absurd (omega arith)
 
 pub weights-requires : goal.weights-requires
 unfolding greatest_size
-weights-requires c = record { counts = search rules; place = omega arith; long = refl; widths = checked one_and_three refl; known = known }
+weights-requires g c = record { counts = search rules; place = omega arith; long = refl; widths = checked one_and_three refl; known = known }

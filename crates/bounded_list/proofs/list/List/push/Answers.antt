@@ -1,4 +1,4 @@
-use Rattle.std.proofs.Common.{◌≡◌, length, take, set, sym, refl, ap, arith, rules}
+use Rattle.std.proofs.Common.{◌≡◌, length, take, set, sym, ap, arith, rules}
 use Rattle.std.proofs.lemmas.List.{take_all, take_more_set, length-take-le}
 use Rattle.bounded_list.proofs.list.List.push.Goals as goal
 

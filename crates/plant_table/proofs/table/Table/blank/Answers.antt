@@ -5,8 +5,14 @@ use Rattle.plant_table.proofs.Zeros.{zeros_are_values}
 use Rattle.plant_table.proofs.table.Table.blank.Goals as goal
 
 pub invariant_of-result : goal.invariant_of-result
-invariant_of-result c =
-    ((omega arith, omega arith, omega arith, omega arith, omega arith), ((refl, refl, refl, refl), (zeros_are_values gain_room, (zeros_are_values coefficient_room, (zeros_are_values constant_room, (zeros_are_values slope_room, tt))))))
+invariant_of-result c = record {
+  counted = (omega arith, omega arith, omega arith, omega arith, omega arith);
+  room = (refl, refl, refl, refl);
+  gain_values = zeros_are_values gain_room;
+  coefficient_values = zeros_are_values coefficient_room;
+  constant_values = zeros_are_values constant_room;
+  slope_values = zeros_are_values slope_room;
+}
 
 pub returns : goal.returns
 unfolding meaning_of

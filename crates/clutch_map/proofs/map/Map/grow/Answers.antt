@@ -194,13 +194,12 @@ invariant_of-self-2 c =
     let r : Corner = record { mask = m; words = c.in-Some-cross.words } in
     let C = crossing (goal.at.invariant_of-self-2 c).After-mask_across-mask (due_pair (goal.at.invariant_of-self-2 c).In-Some-outside) (limit_left (goal.at.invariant_of-self-2 c).In-Some-left_by) in
     let new = new_record p _ _ c.in-Some-outside.limit m _ C c.shape-shape.result c.shape-shape.ensures.counts c.in-Some-cross.words c.in-Some-cross.ensures.answer in
-    let pushed = c.in-Ok.ensures.cases.1 in (
-      rw c.in-Ok.ensures.room self.few,
-      (
-        subst (AllRecords p) (sym pushed) (all_records_push p cs r self.records new),
-        (first_kept cs (contents c.push.new.self) r some pushed self.words c.cross.new.words c.cross.ensures.same self.first, tt),
-      ),
-    )
+    let pushed = c.in-Ok.ensures.cases.1 in
+    record {
+      few = rw c.in-Ok.ensures.room self.few;
+      records = subst (AllRecords p) (sym pushed) (all_records_push p cs r self.records new);
+      first = first_kept cs (contents c.push.new.self) r some pushed self.words c.cross.new.words c.cross.ensures.same self.first;
+    }
 
 pub returns : goal.returns
 returns c = λ tray es most.

@@ -46,13 +46,12 @@ invariant_of-self-2 g c =
     let none = unlisted self c.is_empty.result c.is_empty.ensures c.if-not-is_empty.false in
     let r : Corner = record { mask = c.in_ok-started.started.mask; words = c.find_first.new.words } in
     let e = only (contents self.corners) (contents c.push.new.self) r none c.in-Ok.ensures.cases.1 in
-    let (X, holds, mask) = found_corner p _ _ _ _ c.in_ok-started.ensures.corner in (
-      rw c.in-Ok.ensures.room self.few,
-      (
-        subst (AllRecords p) (sym e) (all_records_push p [] r (all_records_none p) (record_of p r X c.in_ok-started.ensures.long holds mask)),
-        (subst (λ cs. AtFirst cs c.find_first.new.words) (sym e) (λ h. refl), tt),
-      ),
-    )
+    let (X, holds, mask) = found_corner p _ _ _ _ c.in_ok-started.ensures.corner in
+    record {
+      few = rw c.in-Ok.ensures.room self.few;
+      records = subst (AllRecords p) (sym e) (all_records_push p [] r (all_records_none p) (record_of p r X c.in_ok-started.ensures.long holds mask));
+      first = subst (λ cs. AtFirst cs c.find_first.new.words) (sym e) (λ h. refl);
+    }
 
 pub returns : goal.returns
 returns g c = λ es most.

@@ -17,7 +17,7 @@ loop-k-preserved g c = λ plain.
     let before = c.loop-k.invariant plain in
     let fits : SFits w64 (get_or zs k (pos 0)) = search rules in
     let same = ap (λ z. spaced (take k zs) ++ (32 ∷ signed_decimal z)) (to_z-of_z w64 (get_or zs k (pos 0)) fits) in
-    has_written_of_eq _ _ _ _ _ (same ∙ spaced_more zs k c.loop-k-test.true) (has_written_append _ _ _ _ _ _ before (c.in_ok-write.ensures.shows before.plain refl))
+    has_written_of_eq _ _ _ _ _ (same ∙ spaced_more zs k c.loop-k-test.true) (has_written_append _ _ _ _ _ _ before (c.in_ok-write.ensures.writes before.plain refl))
 
 pub returns-clause-writes : goal.returns-clause-writes
 returns-clause-writes g c = λ plain ok.

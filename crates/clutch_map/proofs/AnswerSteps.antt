@@ -1,5 +1,5 @@
 -- From a look through the records to the step of an answer.
-use Rattle.std.proofs.Common.{◌≡◌, ℕ, suc, ◌*◌, ◌<◌, ◌≤◌, Bool, true, false, leb, List, length, get_or, take, ℤ, pos, ◌*ℤ◌, ◌≤ℤ◌, Some, None, sym, refl, ap, ◌∙◌, subst, arith, leb-false, leb-true}
+use Rattle.std.proofs.Common.{◌≡◌, ℕ, suc, ◌*◌, ◌<◌, ◌≤◌, Bool, true, false, leb, List, length, get_or, ℤ, pos, ◌*ℤ◌, ◌≤ℤ◌, Some, None, sym, refl, ap, ◌∙◌, subst, arith, leb-false, leb-true}
 use Rattle.bounded_list.specs.Contents.{contents}
 use Rattle.plant_table.specs.Tabled.{meaning_of}
 use Rattle.trays.specs.Commands.{CommandAnswer}
@@ -9,10 +9,9 @@ use Rattle.plant.specs.Commands.{column}
 use Rattle.plant.specs.Meaning.{Meaning, shape_of}
 use Rattle.tableau.specs.Masks.{mask_of}
 use Rattle.tableau.specs.Plants.{limits, with_one, CornerOf}
-use Rattle.tableau.specs.Readings.{slack_at, Region}
+use Rattle.tableau.specs.Readings.{Region}
 use Rattle.tableau.specs.Runs.{HasSameLimits}
 use Rattle.tableau.proofs.Masks.{mask_basis}
-use Rattle.words.specs.Layout.{InBounds}
 use Rattle.words.specs.declared.counts.Shape.{Shape}
 use Rattle.corner_words.proofs.Orders.{same_slack}
 use Rattle.corner_runs.specs.Answers.{HoldsCorner, SomeCorner}

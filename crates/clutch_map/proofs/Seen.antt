@@ -1,5 +1,5 @@
 -- What the records of a map say of its state.
-use Rattle.std.proofs.Common.{◌≡◌, ℕ, zero, suc, ◌+◌, ◌*◌, ◌<◌, ◌≤◌, Bool, true, false, eqb, leb, List, [], ◌∷◌, ◌++◌, map, length, get_or, take, ℤ, Some, sym, refl, ap, ◌∙◌, subst, inl, inr, arith, length-take, eqb-true, leb-false}
+use Rattle.std.proofs.Common.{◌≡◌, ℕ, zero, suc, ◌*◌, ◌<◌, ◌≤◌, Bool, true, false, eqb, leb, List, [], ◌∷◌, length, get_or, take, ℤ, Some, sym, refl, ap, ◌∙◌, subst, inl, inr, arith, length-take, eqb-true, leb-false}
 use borrow.Author.Tests.{eqb-false}
 use Rattle.std.proofs.lemmas.Bool.{cases_eq}
 use Rattle.bounded_list.specs.Contents.{records, contents, room}

@@ -1,5 +1,5 @@
 -- From what a solve on the working tableau came to, to the step of the call.
-use Rattle.std.proofs.Common.{◌≡◌, ℕ, List, ℤ, Result, sym, refl, ap, ◌∙◌, subst, ap₂}
+use Rattle.std.proofs.Common.{◌≡◌, ℕ, List, ℤ, Result, sym, subst, ap₂}
 use Rattle.words.specs.declared.refusal.Refusal.{Refusal}
 use Rattle.tableau.specs.Masks.{mask_of}
 use Rattle.tableau.specs.Plants.{CornerOf}

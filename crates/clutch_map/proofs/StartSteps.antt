@@ -1,5 +1,5 @@
 -- From what a search on the working tableau came to, to the step of a start.
-use Rattle.std.proofs.Common.{◌≡◌, ℕ, List, [], ◌∷◌, ◌++◌, length, ℤ, Ok, Err, Result, sym, refl, ap, ◌∙◌, subst, arith}
+use Rattle.std.proofs.Common.{◌≡◌, ℕ, List, [], ◌∷◌, ◌++◌, length, ℤ, Ok, Err, refl, ap, ◌∙◌, subst, arith}
 use Rattle.tableau.specs.Masks.{mask_of}
 use Rattle.tableau.specs.Plants.{CornerOf}
 use Rattle.corner_runs.specs.Answers.{HoldsCorner}
@@ -7,8 +7,8 @@ use Rattle.corner_list.specs.declared.corner.Corner.{Corner}
 use Rattle.clutch_map.specs.Views.{in_force, masks_of}
 use Rattle.plant.specs.Meaning.{Meaning}
 use Rattle.words.specs.declared.refusal.Refusal.{Refusal}
-use Rattle.map_steps.specs.States.{Standing, View}
-use Rattle.map_steps.specs.Steps.{Step, Start, to_start, Startable, with_tray, with_state, begun, started, start_wide, start_no_best}
+use Rattle.map_steps.specs.States.{View}
+use Rattle.map_steps.specs.Steps.{Step, Start, to_start, Startable, with_tray, begun, started, start_wide, start_no_best}
 use Rattle.map_steps.specs.declared.reply.Started.{Started}
 use Rattle.working_tableau.specs.Starts.{FirstCorner, found, no_best, wide}
 

@@ -1,5 +1,5 @@
 -- How many ways to choose there are at the most.
-use Rattle.std.proofs.Common.{◌≡◌, ℕ, zero, suc, ◌+◌, ◌*◌, ◌^◌, ◌<◌, ◌≤◌, pow-suc, arith, pow_pos, pow_mono}
+use Rattle.std.proofs.Common.{◌≡◌, ℕ, zero, suc, ◌+◌, ◌*◌, ◌^◌, ◌≤◌, pow-suc, arith, pow_pos, pow_mono}
 use Rattle.tableau.specs.Choose.{choose}
 use Rattle.words.specs.Bounds.{most_limits, most_commands}
 

@@ -1,7 +1,7 @@
 -- The run of a solve is a run of the plant, and so it is short.
-use Rattle.std.proofs.Common.{◌≡◌, ℕ, suc, ◌+◌, ◌<◌, List, [], ◌∷◌, ◌++◌, length, ℤ, sym, refl, ap, ◌∙◌, subst, arith, length-append}
+use Rattle.std.proofs.Common.{◌≡◌, ℕ, suc, ◌+◌, ◌<◌, List, [], ◌∷◌, ◌++◌, length, ℤ, sym, ap, ◌∙◌, subst, arith, length-append}
 use Rattle.plant.specs.Meaning.{Meaning}
-use Rattle.tableau.specs.Chain.{Chain, done, more}
+use Rattle.tableau.specs.Chain.{done, more}
 use Rattle.tableau.specs.Choose.{choose}
 use Rattle.tableau.specs.Plants.{commands, limits, CornerOf, SearchCorner}
 use Rattle.tableau.specs.Runs.{Step, Run}

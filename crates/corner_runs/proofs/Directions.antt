@@ -1,6 +1,6 @@
 -- The products of the columns with the direction Y.
-use Rattle.std.proofs.Common.{◌≡◌, ℕ, ◌+◌, ◌<◌, ◌≤◌, List, ℤ, pos, ◌*ℤ◌, ◌≤ℤ◌, ◌<ℤ◌, Some, None, sym, refl, ap, ◌∙◌, subst, arith}
-use Rattle.exact.specs.Vectors.{sum, dot}
+use Rattle.std.proofs.Common.{◌≡◌, ℕ, ◌+◌, ◌<◌, List, ℤ, pos, ◌*ℤ◌, ◌≤ℤ◌, ◌<ℤ◌, Some, None, sym, refl, ap, ◌∙◌, subst, arith}
+use Rattle.exact.specs.Vectors.{dot}
 use Rattle.exact.proofs.Sums.{sum_cong}
 use Rattle.plant.specs.Commands.{column}
 use Rattle.plant.specs.Meaning.{Meaning, shape_of}

@@ -1,11 +1,10 @@
 -- The search for a first corner, as far as it has come.
-use Rattle.std.proofs.Common.{◌≡◌, ℕ, suc, ◌+◌, ◌<◌, ◌≤◌, List, ℤ, pos, ◌≤ℤ◌, ◌<ℤ◌, Some, None, sym, refl, ap, ◌∙◌, subst, add-one, arith}
+use Rattle.std.proofs.Common.{◌≡◌, ℕ, ◌+◌, ◌<◌, List, ℤ, Some, None, add-one, arith}
 use Rattle.std.proofs.lemmas.Int.{ints}
 use Rattle.plant.specs.Meaning.{Meaning, shape_of}
 use Rattle.tableau.specs.Chain.{done, more}
 use Rattle.tableau.specs.Choose.{choose}
 use Rattle.tableau.specs.Plants.{commands, limits, all_columns, SearchCorner}
-use Rattle.tableau.specs.Tableau.{entry}
 use Rattle.tableau.proofs.Searches.{search_row}
 use Rattle.words.specs.declared.counts.Shape.{Shape}
 use Rattle.corner_words.specs.Enters.{EnteredAt, EnterAnswer}

@@ -1,5 +1,5 @@
 -- The run of a solve, as far as it has come.
-use Rattle.std.proofs.Common.{◌≡◌, ℕ, suc, ◌+◌, ◌<◌, ◌≤◌, min, List, [], ◌∷◌, ◌++◌, length, take, set, ℤ, Some, None, Ok, Err, Result, sym, refl, ap, ◌∙◌, subst, arith, length-take, MatchResult}
+use Rattle.std.proofs.Common.{◌≡◌, ℕ, ◌+◌, ◌<◌, min, List, [], ◌∷◌, ◌++◌, length, take, set, ℤ, Some, None, Ok, Err, Result, sym, refl, ap, ◌∙◌, subst, arith, length-take, MatchResult}
 use Rattle.bounded_list.specs.Contents.{contents, records, room as room_of}
 use Rattle.bounded_list.specs.declared.list.List.{List as Bounded}
 use lib.Seq.{take-append-le}
@@ -15,8 +15,8 @@ use Rattle.corner_words.specs.Enters.{EnteredAt, EnterAnswer}
 use Rattle.corner_words.specs.declared.enter.Entered.{Entered}
 use Rattle.corner_words.specs.declared.enter.Entered.TheVariants.{Across, NoRow, OutOfWidth}
 use Rattle.corner_words.proofs.Entering.{tableau_of}
-use Rattle.corner_runs.specs.Answers.{HoldsCorner, SomeCorner, RunFrom, RunAnswer}
-use Rattle.corner_runs.specs.SolveRuns.{LeastWilling, SolveRun, stands, goes, Settled, WithoutRow, BeyondWidth}
+use Rattle.corner_runs.specs.Answers.{HoldsCorner, SomeCorner, RunFrom}
+use Rattle.corner_runs.specs.SolveRuns.{LeastWilling, SolveRun, stands, goes}
 use Rattle.corner_runs.specs.declared.exchanges.Exchange.{Exchange}
 use Rattle.corner_runs.specs.declared.run.End.TheVariants as End
 use Rattle.corner_runs.proofs.Chains.{run_short, one_longer}

@@ -1,5 +1,5 @@
 -- What the loops answer, over words that hold the tableau of the corner that they begin at.
-use Rattle.std.specs.Prelude.{◌≡◌, ℕ, ◌+◌, ◌<◌, List, length, take, ℤ, Some, None, Ok, Err, Option, Result}
+use Rattle.std.specs.Prelude.{◌≡◌, ℕ, ◌+◌, List, length, take, ℤ, Some, None, Option}
 use Rattle.plant.specs.Meaning.{Meaning, shape_of}
 use Rattle.plant.specs.Commands.{column}
 use Rattle.tableau.specs.Plants.{commands, limits, all_columns, CornerOf, SearchCorner}

@@ -1,5 +1,5 @@
 -- The search of a start: at each corner the least limit that stops the direction Y enters.
-use Rattle.std.specs.Prelude.{◌≡◌, ℕ, suc, ◌+◌, ◌<◌, ℤ, pos, ◌≤ℤ◌, ◌<ℤ◌}
+use Rattle.std.specs.Prelude.{ℕ, suc, ◌+◌, ◌<◌, pos, ◌≤ℤ◌, ◌<ℤ◌}
 use Rattle.exact.specs.Vectors.{dot}
 use Rattle.plant.specs.Meaning.{Meaning}
 use Rattle.plant.specs.Commands.{column, value}

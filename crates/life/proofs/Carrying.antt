@@ -1,5 +1,5 @@
 -- From the step of a call to an order that was carried out.
-use Rattle.std.proofs.Common.{◌≡◌, ℕ, zero, suc, ◌-◌, ◌<◌, ◌≤◌, min, Bool, true, false, ltb, List, [], ◌∷◌, ◌++◌, length, take, drop, ℤ, Some, sym, refl, ap, ◌∙◌, subst, ap₂, arith, length-take, ltb-false, ltb-true}
+use Rattle.std.proofs.Common.{◌≡◌, ℕ, zero, suc, ◌-◌, ◌<◌, min, Bool, true, false, ltb, List, [], ◌∷◌, ◌++◌, length, take, drop, ℤ, Some, sym, refl, ap, ◌∙◌, subst, arith, length-take, ltb-false, ltb-true}
 use Rattle.std.specs.List.{slice_get}
 use Rattle.std.proofs.lemmas.Option.{slice_get_past}
 use native.Mathlib.Nat.{sub-zero}
@@ -8,7 +8,7 @@ use Rattle.corner_runs.specs.declared.exchanges.Exchange.{Exchange}
 use Rattle.map_steps.specs.States.{Standing, State, View}
 use Rattle.map_steps.specs.Steps.{Call, Step}
 use Rattle.map_steps.specs.declared.reply.Reply.{Reply}
-use Rattle.life.specs.Lives.{StandsFor, MakesSense, NoPlant, absent, SenseAnswer, tray_lent, trail_lent, lent, given_back, Carried}
+use Rattle.life.specs.Lives.{StandsFor, MakesSense, NoPlant, absent, SenseAnswer, tray_lent, trail_lent, lent, Carried}
 use Rattle.life.specs.declared.order.Order.{Order}
 use Rattle.life.specs.declared.order.Order.TheVariants.{Start}
 

@@ -1,5 +1,5 @@
 -- Lives, one order after another.
-use Rattle.std.proofs.Common.{◌≡◌, ℕ, zero, suc, ◌+◌, ◌<◌, ◌≤◌, min, ◌⊎◌, List, [], ◌∷◌, ◌++◌, length, get_or, take, drop, set, ℤ, Some, sym, refl, ap, ◌∙◌, subst, add-one, arith}
+use Rattle.std.proofs.Common.{◌≡◌, ℕ, zero, suc, ◌+◌, ◌<◌, min, ◌⊎◌, List, [], ◌∷◌, ◌++◌, length, get_or, take, drop, set, ℤ, Some, sym, refl, ap, ◌∙◌, subst, add-one, arith}
 use Rattle.std.proofs.lemmas.List.{take_more, take_more_set, drop-set-lt, drop-drop}
 use Rattle.clutch_map.specs.Listed.{most_records}
 use Rattle.std.specs.List.{slice_get}
@@ -7,7 +7,7 @@ use Rattle.map_steps.specs.States.{Standing, State, View}
 use Rattle.map_steps.specs.declared.reply.Reply.{Reply}
 use Rattle.promises.specs.Histories.{History, opens, opened}
 use Rattle.promises.specs.Histories as history
-use Rattle.promises.specs.Promises.{Moment, AllKept}
+use Rattle.promises.specs.Promises.{Moment}
 use Rattle.promises.proofs.KeptHistories.{every_promise}
 use Rattle.life.specs.Lives.{lent, Carried, Told, Life, begins, goes, NoPlant, at_first, Lived}
 use Rattle.life.specs.declared.entry.Entry.{Entry}

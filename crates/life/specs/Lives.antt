@@ -1,9 +1,9 @@
 -- Lives of a map: any list of orders, carried out one after another from its opening on.
-use Rattle.std.specs.Prelude.{◌≡◌, ℕ, ◌<◌, ◌≤◌, min, Bool, true, false, ◌⊎◌, List, [], ◌∷◌, ◌++◌, length, take, drop, ℤ, Some, None}
+use Rattle.std.specs.Prelude.{◌≡◌, ℕ, ◌<◌, min, Bool, true, false, ◌⊎◌, List, [], ◌∷◌, ◌++◌, length, take, drop, ℤ, Some, None}
 use Rattle.exact.specs.Vectors.{entries}
 use Rattle.std.specs.List.{slice_get}
 use Rattle.trays.specs.Trays.{tray_size}
-use Rattle.map_steps.specs.States.{Standing, State, View}
+use Rattle.map_steps.specs.States.{Standing, View}
 use Rattle.map_steps.specs.Steps.{Call, Step}
 use Rattle.map_steps.specs.Steps as call
 use Rattle.map_steps.specs.declared.reply.Reply.{Reply}

@@ -11,7 +11,7 @@ use Rattle.corner_runs.specs.SolveRuns.{SolveRun}
 use Rattle.corner_runs.specs.declared.exchanges.Exchange.{Exchange}
 use Rattle.trays.specs.Commands.{command_list}
 use Rattle.map_steps.specs.States.{Standing, View}
-use Rattle.map_steps.specs.Steps.{Call, Start, Solve, Grow, Answer, mask_at, FinishedMap}
+use Rattle.map_steps.specs.Steps.{Call, Start, Solve, Answer, mask_at, FinishedMap}
 use Rattle.map_steps.specs.declared.reply.Solved.{Solved}
 use Rattle.map_steps.specs.declared.reply.Answered.{Answered}
 use Rattle.map_steps.specs.declared.reply.Reply.{Reply}

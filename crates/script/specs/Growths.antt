@@ -1,5 +1,5 @@
 -- How far a map has grown, by the replies to its grows.
-use Rattle.std.specs.Prelude.{◌≡◌, ℕ, ◌+◌, ◌-◌, ◌*◌, ◌<◌, ◌≤◌, Bool, true, false, List, length, take, Some, Ok, Err, count_by, Result, ◌≢◌}
+use Rattle.std.specs.Prelude.{◌≡◌, ℕ, ◌+◌, ◌<◌, ◌≤◌, Bool, true, false, List, length, take, Some, Ok, Err, count_by, Result, ◌≢◌}
 use Rattle.std.specs.List.{slice_get}
 use Rattle.words.specs.declared.refusal.Refusal.{Refusal}
 use Rattle.map_steps.specs.declared.reply.Grown.TheVariants.{Nothing, Listed, Finished}

@@ -1,8 +1,7 @@
 -- What is known of words that hold a corner of the plant.
-use Rattle.std.proofs.Common.{◌≡◌, ℕ, ◌+◌, ◌-◌, ◌<◌, List, take, ℤ, pos, ◌<ℤ◌, sym, ap, ◌∙◌, subst, arith}
+use Rattle.std.proofs.Common.{◌≡◌, ℕ, ◌-◌, ◌<◌, List, take, ℤ, pos, ◌<ℤ◌, sym, ap, ◌∙◌, subst, arith}
 use native.Mathlib.Nat.{sub-zero}
 use Rattle.std.proofs.lemmas.Int.{ints}
-use Rattle.exact.specs.Vectors.{entries}
 use Rattle.plant.specs.Commands.{column}
 use Rattle.tableau.specs.Plants.{limits}
 use Rattle.words.specs.declared.counts.Shape.{Shape}

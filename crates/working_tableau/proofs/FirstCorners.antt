@@ -1,9 +1,9 @@
 -- From the end of a search to what a start comes to.
-use Rattle.std.proofs.Common.{◌≡◌, ℕ, suc, ◌+◌, ◌-◌, ◌<◌, ◌≤◌, List, ℤ, pos, ◌-ℤ◌, ◌*ℤ◌, ◌≤ℤ◌, ◌<ℤ◌, Result, sym, refl, ap, ◌∙◌, subst, arith}
+use Rattle.std.proofs.Common.{◌≡◌, ℕ, ◌+◌, ◌-◌, ◌<◌, ◌≤◌, List, ℤ, pos, ◌-ℤ◌, ◌*ℤ◌, ◌≤ℤ◌, ◌<ℤ◌, Result, sym, refl, ap, ◌∙◌, subst, arith}
 use Rattle.std.proofs.lemmas.Int.{ints}
 use Rattle.std.proofs.lemmas.Bool.{eq-eqb, ne_eqb, le-leb, lt-leb}
 use Rattle.exact.specs.Bounds.{InWidth}
-use Rattle.exact.specs.Vectors.{dot, entries}
+use Rattle.exact.specs.Vectors.{dot}
 use Rattle.plant.specs.Commands.{column}
 use Rattle.plant.specs.Meaning.{Meaning, shape_of}
 use Rattle.tableau.specs.Plants.{commands, limits, rate, all_columns, CornerOf, SearchCorner}
@@ -23,7 +23,7 @@ use Rattle.corner_runs.specs.declared.search.Searched.{Searched}
 use Rattle.first_tableau.specs.First.{HoldsFirst}
 use Rattle.map_steps.specs.Steps.{SameBasis, SearchTo}
 use Rattle.map_steps.specs.declared.reply.Started.{Started}
-use Rattle.working_tableau.specs.Starts.{SomeArtificial, KeptSearch, SearchUnless, Told, unbounded, corner, StartConcluded, StartConclusion, FirstCorner, found, no_best, wide}
+use Rattle.working_tableau.specs.Starts.{SomeArtificial, KeptSearch, SearchUnless, unbounded, corner, StartConcluded, StartConclusion, FirstCorner, found, no_best, wide}
 
 -- Within the plant's limits, the columns are the plant's own.
 module _ (p : Meaning) (β : ℕ → ℕ) (D : ℤ) (U : ℕ → ℕ → ℤ) where

@@ -1,12 +1,12 @@
 -- From the end of a run to what a solve comes to.
-use Rattle.std.proofs.Common.{◌≡◌, ℕ, ◌+◌, ◌-◌, ◌<◌, List, take, ℤ, Result, sym, refl, ◌∙◌, subst}
+use Rattle.std.proofs.Common.{◌≡◌, ℕ, ◌-◌, List, take, ℤ, Result, sym, refl, ◌∙◌, subst}
 use Rattle.plant.specs.Meaning.{Meaning, shape_of}
 use Rattle.tableau.specs.Plants.{CornerOf}
 use Rattle.tableau.proofs.Exchanges.{willing_outside}
 use Rattle.words.specs.declared.counts.Shape.{Shape}
 use Rattle.tableau_words.specs.Layout.{size}
 use Rattle.words.specs.declared.refusal.Refusal.{Refusal}
-use Rattle.corner_runs.specs.Answers.{HoldsCorner, SomeCorner, EndedAt, RunFrom, RunAnswer}
+use Rattle.corner_runs.specs.Answers.{SomeCorner, EndedAt, RunFrom, RunAnswer}
 use Rattle.corner_runs.specs.declared.exchanges.Exchange.{Exchange}
 use Rattle.corner_runs.specs.declared.run.End.{End}
 use Rattle.corner_runs.specs.declared.run.End.TheVariants.{Settled as AtSettled, NoRow, OutOfWidth}

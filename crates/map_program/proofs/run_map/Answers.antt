@@ -1,5 +1,4 @@
-use Rattle.std.proofs.Common.{◌≡◌, ◌≤◌, length, ap, arith}
-use Rattle.words.specs.Bounds.{most_commands}
+use Rattle.std.proofs.Common.{◌≡◌, length, ap, arith}
 use Rattle.map_program.proofs.run_map.Goals as goal
 
 pub print_solves-requires : goal.print_solves-requires

@@ -1,7 +1,7 @@
 use Rattle.std.proofs.Common.{get_or, pos, arith, w64, SFits, rules}
 use Rattle.std.proofs.lemmas.Int.{ints, to_z-of_z}
 use Rattle.clutch_map.proofs.readings.reading_fault.Goals.{then-reading-k-via-then-reading-k, then-reading-k-via-else-reading-k+then-reading-k-gt-LARGEST_READING}
-use Rattle.clutch_map.proofs.Faults.{other_number, out_of_range, no_fault}
+use Rattle.clutch_map.proofs.Faults.{other_number, out_of_range}
 use Rattle.clutch_map.proofs.readings.reading_fault.Goals as goal
 
 pub returns-then-reading-readings : goal.returns-then-reading-readings

@@ -1,9 +1,9 @@
-use Rattle.std.proofs.Common.{◌≡◌, ◌+◌, ◌^◌, ◌<◌, ◌≤◌, sym, refl, ap, ◌∙◌, arith, rules}
+use Rattle.std.proofs.Common.{◌+◌, ◌<◌, refl, ◌∙◌, arith}
 use Rattle.bounded_list.specs.Contents.{contents, room}
 use Rattle.corner_words.proofs.Holdings.{holding_long, holding_widths}
 use Rattle.tableau.specs.Choose.{choose}
 use Rattle.corner_runs.proofs.Bounds.{choose_few}
-use Rattle.corner_runs.proofs.Walks.{Walks, at_first, left_known, goes_on, noted, holding, settled, without_row, beyond_width, gone_on, made_short}
+use Rattle.corner_runs.proofs.Walks.{Walks, at_first, left_known, goes_on, noted, holding, settled, without_row, beyond_width, made_short}
 use Rattle.corner_runs.proofs.run.run.Goals as goal
 
 pub loop-limit-init : goal.loop-limit-init

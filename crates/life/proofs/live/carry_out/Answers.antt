@@ -1,9 +1,8 @@
-use Rattle.std.proofs.Common.{◌≡◌, [], length, sym, refl, ◌∙◌, subst}
+use Rattle.std.proofs.Common.{[], length, refl, ◌∙◌, subst}
 use Rattle.bounded_list.specs.Contents.{contents, room}
 use Rattle.map_steps.specs.Steps as call
 use Rattle.clutch_map.specs.Views.{seen, state, view}
-use Rattle.life.specs.Lives.{MakesSense, Carried, starts, solves, grows, answers}
-use Rattle.life.specs.declared.order.Order.{Order}
+use Rattle.life.specs.Lives.{MakesSense, starts, solves, grows, answers}
 use Rattle.life.specs.declared.order.Order.TheVariants.{Start, Solve, Grow, Answer}
 use Rattle.life.proofs.Carrying.{carried, named, trail_part, carried_whole}
 use Rattle.life.proofs.live.carry_out.Goals as goal

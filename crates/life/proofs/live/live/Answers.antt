@@ -1,4 +1,4 @@
-use Rattle.std.proofs.Common.{◌≡◌, ◌≤◌, [], length, get_or, drop, sym, refl, ap, ◌∙◌, subst, inl, inr, arith, length-set}
+use Rattle.std.proofs.Common.{◌≡◌, [], length, get_or, drop, refl, ap, subst, inl, inr, arith, length-set}
 use Rattle.map_steps.specs.States.{State}
 use Rattle.clutch_map.specs.Views.{seen}
 use Rattle.life.specs.Lives.{at_first}

@@ -1,6 +1,5 @@
-use Rattle.std.proofs.Common.{◌≡◌, ◌≤◌, [], length, take, drop}
+use Rattle.std.proofs.Common.{◌≡◌, ◌≤◌, [], length, drop}
 use Rattle.clutch_map.specs.Views.{seen}
-use Rattle.life.specs.Lives.{Life, at_first}
 use Rattle.life.proofs.Living.{Living}
 use Rattle.life.proofs.live.live.Given as goal
 

@@ -1,4 +1,4 @@
-use Rattle.std.proofs.Common.{◌≡◌, arith}
+use Rattle.std.proofs.Common.{arith}
 use Rattle.map_program.proofs.ranges.ranges.Goals as goal
 
 pub range_numbers-requires : goal.range_numbers-requires

@@ -1,6 +1,5 @@
 use Rattle.std.proofs.Common.{◌≡◌, get_or, pos, vec_items, ap, ◌∙◌, arith, w64, SFits, to_z, of_z, rules, below_more}
 use Rattle.std.proofs.lemmas.List.{get_or_append_left, get_or_push}
-use Rattle.std.proofs.lemmas.Int.{to_z-of_z}
 use Rattle.script.proofs.groups.numbers.Goals as goal
 
 pub loop-i-preserved : goal.loop-i-preserved

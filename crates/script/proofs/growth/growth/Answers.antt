@@ -1,8 +1,6 @@
-use Rattle.std.proofs.Common.{◌≡◌, ◌+◌, ◌≤◌, true, false, length, take, Some, count_by, sym, ap, ◌∙◌, subst, arith, length-take}
-use Rattle.std.specs.List.{slice_get}
+use Rattle.std.proofs.Common.{◌≡◌, ◌+◌, ◌≤◌, length, take, Some, count_by, sym, ap, ◌∙◌, subst, arith, length-take}
 use Rattle.std.proofs.lemmas.Option.{slice_get-get_or}
 use Rattle.std.proofs.lemmas.List.Sums.{count_by-le-length, count_by_more_yes, count_by_more_no}
-use Rattle.words.specs.declared.refusal.Refusal.{Refusal}
 use Rattle.map_steps.specs.declared.reply.Reply.TheVariants.{Refused}
 use Rattle.script.specs.Growths.{lists, examines, refused, mapped}
 use Rattle.script.proofs.Growing.{here, one_more, stops, at_end, none_at_end, AllBefore}

@@ -1,7 +1,5 @@
-use Rattle.std.proofs.Common.{◌≡◌, ◌<◌, sym, refl, subst, arith, rules}
+use Rattle.std.proofs.Common.{sym, refl, subst}
 use Rattle.corner_words.proofs.Holdings.{holding_long, holding_widths, holding_positive}
-use Rattle.corner_runs.specs.Answers.{SomeCorner}
-use Rattle.corner_runs.specs.declared.run.End.{End}
 use Rattle.working_tableau.specs.Solves.{KeptCorner, HoldsUnless, Concluded}
 use Rattle.working_tableau.proofs.Corners.{corner_holding, rows_known, own_limits}
 use Rattle.working_tableau.proofs.solving.conclude.Goals as goal

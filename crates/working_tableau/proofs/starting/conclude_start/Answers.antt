@@ -1,4 +1,4 @@
-use Rattle.std.proofs.Common.{◌≡◌, sym, refl, ap, ◌∙◌, subst}
+use Rattle.std.proofs.Common.{sym, refl, ap, ◌∙◌, subst}
 use Rattle.plant.specs.Meaning.{shape_of}
 use Rattle.words.specs.declared.counts.Shape.{Shape}
 use Rattle.corner_words.specs.Reads.{OwnLimits}

@@ -1,4 +1,4 @@
-use Rattle.std.proofs.Common.{◌≡◌, [], take, sym, refl, ap, ◌∙◌, subst}
+use Rattle.std.proofs.Common.{[], take, sym, refl, ap, ◌∙◌, subst}
 use Rattle.bounded_list.specs.Contents.{contents}
 use Rattle.plant_table.specs.Tabled.{meaning_of}
 use Rattle.words.specs.declared.counts.Shape.{Shape}

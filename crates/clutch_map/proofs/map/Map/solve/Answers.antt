@@ -1,4 +1,4 @@
-use Rattle.std.proofs.Common.{◌≡◌, ◌<◌, ◌≤◌, length, take, sym, refl, ap, ◌∙◌, subst, arith, eqb-true}
+use Rattle.std.proofs.Common.{length, take, sym, refl, ap, ◌∙◌, subst, eqb-true}
 use Rattle.words.specs.declared.counts.Shape.{Shape}
 use Rattle.tableau_words.specs.Layout.{size}
 use Rattle.corner_runs.specs.Answers.{HoldsCorner}

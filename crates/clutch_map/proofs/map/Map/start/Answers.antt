@@ -1,4 +1,4 @@
-use Rattle.std.proofs.Common.{◌≡◌, [], length, Option, sym, refl, ap, ◌∙◌, subst, arith, eqb-true}
+use Rattle.std.proofs.Common.{[], length, Option, sym, refl, ap, ◌∙◌, subst, eqb-true}
 use borrow.Author.Tests.{eqb-false}
 use Rattle.bounded_list.specs.Contents.{contents, room}
 use Rattle.map_steps.specs.States.{Standing, State}

@@ -52,8 +52,9 @@ fn carry_out<S: Shelf>(
         Order::Start(place, lent) => {
             let n = lent.min(tray.len());
             match shelf.start(place, map, &mut tray[0..n]) {
-                Ok(started) => Reply::Start(started),
-                Err(refusal) => Reply::Refused(refusal),
+                Some(Ok(started)) => Reply::Start(started),
+                Some(Err(refusal)) => Reply::Refused(refusal),
+                None => unreachable!(),
             }
         }
         Order::Solve(reading, lent, notes) => {

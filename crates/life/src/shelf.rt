@@ -1,5 +1,5 @@
 // Plants of any sorts, side by side.
-ghost use Rattle.std.specs.Prelude.{◌≡◌, ℕ, ◌<◌, List, [], ◌∷◌, length, Some, nat_lt};
+ghost use Rattle.std.specs.Prelude.{◌≡◌, ℕ, ◌≤◌, List, [], ◌∷◌, length, Some, nat_lt, IfNone, IfSome};
 ghost use Rattle.std.specs.List.{slice_get};
 ghost use Rattle.corner_runs.specs.declared.exchanges.Exchange.{Exchange as Noted};
 ghost use Rattle.map_steps.specs.States.{Standing};
@@ -20,10 +20,16 @@ pub trait Shelf {
     fn has(&self, place: usize) -> bool
         ensures { result ≡ nat_lt place (length (plants self.now)) };
 
-    // Starts the map with the plant at the place.
-    fn start(&self, place: usize, map: &mut Map<'_>, tray: &mut [i64]) -> Result<Started, Refusal>
-        requires { place < length (plants self.now) }
-        ensures { (s : Standing) → slice_get (plants self.now) place ≡ Some s → (es : List Noted) (most : ℕ) → Step (seen map.old tray.old es most) (seen map.new tray.new es most) (Starts s.kind s.meaning) (to_start result) };
+    // Starts the map with the plant at the place; none, and nothing is done, where there is no plant.
+    fn start(
+        &self,
+        place: usize,
+        map: &mut Map<'_>,
+        tray: &mut [i64],
+    ) -> Option<Result<Started, Refusal>>
+        ensures absent { IfNone result (length (plants self.now) ≤ place) }
+        ensures untouched { IfNone result ((es : List Noted) (most : ℕ) → seen map.new tray.new es most ≡ seen map.old tray.old es most) }
+        ensures started { IfSome result (λ r. (s : Standing) → slice_get (plants self.now) place ≡ Some s → (es : List Noted) (most : ℕ) → Step (seen map.old tray.old es most) (seen map.new tray.new es most) (Starts s.kind s.meaning) (to_start r)) };
 }
 
 // The shelf without plants.
@@ -42,8 +48,8 @@ impl Shelf for Empty {
         _place: usize,
         _map: &mut Map<'_>,
         _tray: &mut [i64],
-    ) -> Result<Started, Refusal> {
-        unreachable()
+    ) -> Option<Result<Started, Refusal>> {
+        None
     }
 }
 
@@ -61,9 +67,14 @@ impl<P: Plant, S: Shelf> Shelf for Beside<P, S> {
         place == 0 || self.rest.has(place - 1)
     }
 
-    fn start(&self, place: usize, map: &mut Map<'_>, tray: &mut [i64]) -> Result<Started, Refusal> {
+    fn start(
+        &self,
+        place: usize,
+        map: &mut Map<'_>,
+        tray: &mut [i64],
+    ) -> Option<Result<Started, Refusal>> {
         if place == 0 {
-            map.start(&self.plant, tray)
+            Some(map.start(&self.plant, tray))
         } else {
             self.rest.start(place - 1, map, tray)
         }

@@ -7,31 +7,31 @@ use Rattle.life.specs.declared.order.Order.TheVariants.{Start, Solve, Grow, Answ
 use Rattle.life.proofs.Carrying.{carried, named, trail_part, carried_whole}
 use Rattle.life.proofs.live.carry_out.Goals as goal
 
+pub returns-in-Some-Ok : goal.returns-in-Some-Ok
+returns-in-Some-Ok g c =
+    let plants = g.S.Shelf.plants c.args.shelf.now in
+    let v = seen c.args.map.now c.args.tray.now [] (length c.args.trail.now) in
+    let (s, there) = named plants c.in-Start.place (subst (MakesSense plants) c.in-Start.is c.requires) in
+    carried plants v (seen c.start.new.map c.start.new.tray [] (length c.args.trail.now)) (Start c.in-Start.place c.in-Start.lent) c.args.order (call.Start s.kind s.meaning) _ c.min-n.result [] (length c.args.trail.now) c.in-Start.is (starts s there) c.min-n.ensures refl refl ((rw c.in-Some-Ok.field-0-is at c.in-Some-Ok.ensures.started) s there [] (length c.args.trail.now))
+
+pub returns-in-Some-Err : goal.returns-in-Some-Err
+returns-in-Some-Err g c =
+    let plants = g.S.Shelf.plants c.args.shelf.now in
+    let v = seen c.args.map.now c.args.tray.now [] (length c.args.trail.now) in
+    let (s, there) = named plants c.in-Start.place (subst (MakesSense plants) c.in-Start.is c.requires) in
+    carried plants v (seen c.start.new.map c.start.new.tray [] (length c.args.trail.now)) (Start c.in-Start.place c.in-Start.lent) c.args.order (call.Start s.kind s.meaning) _ c.min-n.result [] (length c.args.trail.now) c.in-Start.is (starts s there) c.min-n.ensures refl refl ((rw c.in-Some-Err.field-0-is at c.in-Some-Err.ensures.started) s there [] (length c.args.trail.now))
+
 pub returns-in-Ok : goal.returns-in-Ok
 returns-in-Ok g c =
     let plants = g.S.Shelf.plants c.args.shelf.now in
     let v = seen c.args.map.now c.args.tray.now [] (length c.args.trail.now) in
-    let (s, there) = named plants c.in-Start.place (subst (MakesSense plants) c.in-Start.is c.requires) in
-    carried plants v (seen c.start.new.map c.start.new.tray [] (length c.args.trail.now)) (Start c.in-Start.place c.in-Start.lent) c.args.order (call.Start s.kind s.meaning) _ c.min-n.result [] (length c.args.trail.now) c.in-Start.is (starts s there) c.min-n.ensures refl refl (c.in-Ok.ensures s there [] (length c.args.trail.now))
+    carried plants v (view c.solve.new.self c.solve.new.tray c.solve.new.trail) (Solve c.in-Solve.reading c.in-Solve.lent c.in-Solve.notes) c.args.order (call.Solve c.in-Solve.reading.now) _ c.min-n-in-Solve.result (contents c.new-noted.result) (room c.new-noted.result) c.in-Solve.is solves c.min-n-in-Solve.ensures c.new-noted.ensures.contents (c.new-noted.ensures.room ∙ trail_part c.args.trail.now c.min-l.result c.in-Solve.notes c.min-l.ensures) c.in-Ok.ensures
 
 pub returns-in-Err : goal.returns-in-Err
 returns-in-Err g c =
     let plants = g.S.Shelf.plants c.args.shelf.now in
     let v = seen c.args.map.now c.args.tray.now [] (length c.args.trail.now) in
-    let (s, there) = named plants c.in-Start.place (subst (MakesSense plants) c.in-Start.is c.requires) in
-    carried plants v (seen c.start.new.map c.start.new.tray [] (length c.args.trail.now)) (Start c.in-Start.place c.in-Start.lent) c.args.order (call.Start s.kind s.meaning) _ c.min-n.result [] (length c.args.trail.now) c.in-Start.is (starts s there) c.min-n.ensures refl refl (c.in-Err.ensures s there [] (length c.args.trail.now))
-
-pub returns-in-Ok-solve : goal.returns-in-Ok-solve
-returns-in-Ok-solve g c =
-    let plants = g.S.Shelf.plants c.args.shelf.now in
-    let v = seen c.args.map.now c.args.tray.now [] (length c.args.trail.now) in
-    carried plants v (view c.solve.new.self c.solve.new.tray c.solve.new.trail) (Solve c.in-Solve.reading c.in-Solve.lent c.in-Solve.notes) c.args.order (call.Solve c.in-Solve.reading.now) _ c.min-n-in-Solve.result (contents c.new-noted.result) (room c.new-noted.result) c.in-Solve.is solves c.min-n-in-Solve.ensures c.new-noted.ensures.contents (c.new-noted.ensures.room ∙ trail_part c.args.trail.now c.min-l.result c.in-Solve.notes c.min-l.ensures) c.in-Ok-solve.ensures
-
-pub returns-in-Err-solve : goal.returns-in-Err-solve
-returns-in-Err-solve g c =
-    let plants = g.S.Shelf.plants c.args.shelf.now in
-    let v = seen c.args.map.now c.args.tray.now [] (length c.args.trail.now) in
-    carried plants v (view c.solve.new.self c.solve.new.tray c.solve.new.trail) (Solve c.in-Solve.reading c.in-Solve.lent c.in-Solve.notes) c.args.order (call.Solve c.in-Solve.reading.now) _ c.min-n-in-Solve.result (contents c.new-noted.result) (room c.new-noted.result) c.in-Solve.is solves c.min-n-in-Solve.ensures c.new-noted.ensures.contents (c.new-noted.ensures.room ∙ trail_part c.args.trail.now c.min-l.result c.in-Solve.notes c.min-l.ensures) c.in-Err-solve.ensures
+    carried plants v (view c.solve.new.self c.solve.new.tray c.solve.new.trail) (Solve c.in-Solve.reading c.in-Solve.lent c.in-Solve.notes) c.args.order (call.Solve c.in-Solve.reading.now) _ c.min-n-in-Solve.result (contents c.new-noted.result) (room c.new-noted.result) c.in-Solve.is solves c.min-n-in-Solve.ensures c.new-noted.ensures.contents (c.new-noted.ensures.room ∙ trail_part c.args.trail.now c.min-l.result c.in-Solve.notes c.min-l.ensures) c.in-Err.ensures
 
 pub returns-in-Ok-grow : goal.returns-in-Ok-grow
 returns-in-Ok-grow g c =

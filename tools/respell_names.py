@@ -21,6 +21,9 @@ ALIAS = re.compile(r" as ([^\s(){}\[\]:;,]+)")
 CHOSEN = {
     "In-width": "TableauInWidth",
     "Laid_out": "LaidOut",
+    "Span-of": "span_of",
+    "Counts-of": "counts_of",
+    "width_of_lem": "width_of",
     "First-below": "IsFirstBelow",
     "Lowest-terms": "IsInLowestTerms",
     "No-command": "HasNoCommand",

@@ -15,7 +15,7 @@ use Rattle.first_tableau.proofs.FirstNumbers.{first_gain, first_entry, first_law
 
 -- What the code hands out after it has turned a number's sign.
 pub turned_is : (n g r x : ℤ) → SFits w64 n → SFits w64 g → SFits w64 r → r ≡ to_z w64 (of_z w64 n) *ℤ sign_of (to_z w64 (of_z w64 g)) → x ≡ n *ℤ sign_of g → to_z w64 (of_z w64 r) ≡ x
-turned_is n g r x fits-n fits_g fits-r e same = to_z-of_z w64 r fits-r ∙ e ∙ rw (to_z-of_z w64 n fits-n, to_z-of_z w64 g fits_g) (sym same)
+turned_is n g r x fits_n fits_g fits_r e same = to_z-of_z w64 r fits_r ∙ e ∙ rw (to_z-of_z w64 n fits_n, to_z-of_z w64 g fits_g) (sym same)
 
 module _ (p : Meaning) where
   module _ (r : ℕ) (l : r < commands p) (g : ℤ) (gain : g ≡ entries p.gains r) (i : ℕ) where

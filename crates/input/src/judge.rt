@@ -1,6 +1,6 @@
 // The plant that the input describes.
 ghost use Rattle.std.specs.Prelude.{◌≡◌};
-ghost use Rattle.plant.specs.Meaning.{shape_of as CountsOf};
+ghost use Rattle.plant.specs.Meaning.{shape_of as counts_of};
 ghost use Rattle.input.specs.Judged.{Judged};
 
 use crate::split::{plant_end, range_follows, range_numbers};
@@ -14,7 +14,7 @@ use words::refusal::Refusal;
 
 // The counts of a plant.
 pub fn shape_of<P: Plant>(plant: &P) -> Shape
-    ensures { result ≡ CountsOf (P.Plant.meaning plant.now) }
+    ensures { result ≡ counts_of (P.Plant.meaning plant.now) }
 {
     Shape {
         commands: plant.commands(),

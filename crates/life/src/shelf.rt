@@ -1,5 +1,5 @@
 // Plants of any sorts, side by side.
-ghost use Rattle.std.specs.Prelude.{◌≡◌, ℕ, ◌≤◌, List, [], ◌∷◌, length, Some, nat_lt, IfNone, IfSome};
+ghost use Rattle.std.specs.Prelude.{◌≡◌, ℕ, ◌<◌, ◌≤◌, List, [], ◌∷◌, length, Some, nat_lt, IfNone, IfSome};
 ghost use Rattle.std.specs.List.{slice_get};
 ghost use Rattle.corner_runs.specs.declared.exchanges.Exchange.{Exchange as Noted};
 ghost use Rattle.map_steps.specs.States.{Standing};
@@ -28,6 +28,7 @@ pub trait Shelf {
         tray: &mut [i64],
     ) -> Option<Result<Started, Refusal>>
         ensures absent { IfNone result (length (plants self.now) ≤ place) }
+        ensures present { IfSome result (λ _. place < length (plants self.now)) }
         ensures untouched { IfNone result ((es : List Noted) (most : ℕ) → seen map.new tray.new es most ≡ seen map.old tray.old es most) }
         ensures started { IfSome result (λ r. (s : Standing) → slice_get (plants self.now) place ≡ Some s → (es : List Noted) (most : ℕ) → Step (seen map.old tray.old es most) (seen map.new tray.new es most) (Starts s.kind s.meaning) (to_start r)) };
 }

@@ -1,6 +1,6 @@
 // What a written-out plant answers.
 ghost use Rattle.std.specs.Prelude.{◌≡◌, ◌+◌, ◌<◌};
-ghost use Rattle.words.specs.Layout.{width as width_of_lem, limit_place};
+ghost use Rattle.words.specs.Layout.{width as width_of, limit_place};
 ghost use Rattle.plant.specs.Written.{number_at, said};
 ghost use Rattle.plant.specs.WrittenBounds.{written_kind, written_bounded};
 
@@ -29,7 +29,7 @@ impl Written<'_> {
     // The number in a column of a limit, both from 0.
     fn cell(&self, limit: usize, column: usize) -> i32
         requires limit { limit < self.now.counts.shape.limits }
-        requires column { column < width_of_lem self.now.counts.shape }
+        requires column { column < width_of self.now.counts.shape }
         ensures { result ≡ number_at self.now.words.now (limit_place self.now.counts.shape limit + column) }
     {
         let shape = self.counts.shape();

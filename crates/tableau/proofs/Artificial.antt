@@ -103,7 +103,7 @@ module _ (m : ℕ) (a : ℕ → ℕ → ℤ) (β : ℕ → ℕ) (D : ℤ) (U : �
 
 -- The slack of a limit with a_j · Y > 0 is negative for the right sides `is_artificial n`, whose solution is Y.
 pub start_begins : (m : ℕ) (a : ℕ → ℕ → ℤ) (β : ℕ → ℕ) (D : ℤ) (U : ℕ → ℕ → ℤ) (n j : ℕ) → j < n → pos 0 <ℤ dot m (a j) (point m β U (is_artificial n)) → Positive 1 (λ l. neg_ℤ (D *ℤ is_artificial n j -ℤ dot m (a j) (point m β U (is_artificial n))))
-start_begins m a β D U n j true-j wrong = record {
+start_begins m a β D U n j true_j wrong = record {
   place = 0;
   inside = omega arith;
   zeros = λ i k. absurd (omega arith);

@@ -2,7 +2,7 @@
 ghost use Rattle.std.specs.Prelude.{◌≡◌, ◌+◌, ◌≤◌, true, false, length, MatchOption, MatchResult};
 ghost use Rattle.words.specs.Faults.{LaidOut, Faulty, RightBefore, shape_of};
 ghost use Rattle.words.specs.Parts.{Handed, PartAt, words_in, ReadWhole};
-ghost use Rattle.words.specs.Steps.{span as SpanOf, StateFits, Stands, done};
+ghost use Rattle.words.specs.Steps.{span as span_of, StateFits, Stands, done};
 
 use crate::counts::Counts;
 use crate::part::Part;
@@ -14,7 +14,7 @@ impl State {
     // The number of words of the part that begins here.
     fn span(&self) -> usize
         requires { StateFits self.now }
-        ensures { result ≡ SpanOf self.now }
+        ensures { result ≡ span_of self.now }
     {
         match *self {
             State::Head | State::Close(_) => 1,
@@ -29,7 +29,7 @@ impl State {
 fn read_part(words: &[u32], from: usize, first: State) -> Result<State, Refusal>
     requires stands { Stands words.now from first }
     requires more { done first ≡ false }
-    ensures { MatchResult result (λ s. Stands words.now (from + SpanOf first) s) (Faulty words.now) }
+    ensures { MatchResult result (λ s. Stands words.now (from + span_of first) s) (Faulty words.now) }
 {
     let mut state = first;
     let mut at = from;
@@ -47,9 +47,9 @@ fn read_part(words: &[u32], from: usize, first: State) -> Result<State, Refusal>
 fn part_at<'a>(words: &'a [u32], from: usize, first: State) -> Part<'a>
     requires stands { Stands words.now from first }
     requires more { done first ≡ false }
-    requires long { from + SpanOf first ≤ length words.now }
+    requires long { from + span_of first ≤ length words.now }
     ensures part { PartAt words.now from result }
-    ensures span { words_in result ≡ SpanOf first }
+    ensures span { words_in result ≡ span_of first }
 {
     let part = &words[from..from + first.span()];
     match first {

@@ -96,10 +96,10 @@ def listed(words):
 def main():
     small = next(e for e in exchanges(Plant(0, 3)) if e[3] == 1)
     common = next(e for e in exchanges(Plant(0, 9)) if e[3] == e[0][0] > 1000)
-    cases = [("DIVISOR_1", "divisor-1", "divisor 1", small), ("COMMON_DIVISOR", "common-divisor", "common divisor", common)]
+    cases = [("DIVISOR_1", "divisor_1", "divisor 1", small), ("COMMON_DIVISOR", "common_divisor", "common divisor", common)]
     code = "// Made by tools/exchange_bench.py: two corners and an exchange from each.\n"
     proof = ("-- Made by tools/exchange_bench.py: the words of the two corners, as the code has them.\n"
-             "use mathlib.Core.List.{List, [], _∷_}\nuse lib.IntN.{ℤ, pos, negsuc}\n")
+             "use Rattle.std.proofs.Common.{List, [], ◌∷◌, ℤ, pos, negsuc}\n")
     header = "/* Made by tools/exchange_bench.py: two corners and an exchange from each. */\n"
     with open("crates/exchange_bench/stdout", "w") as out:
         for name, term, label, (words, r, limit, divisor, across) in cases:

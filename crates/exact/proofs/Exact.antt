@@ -1,8 +1,7 @@
 -- Division without remainder.
-use Rattle.std.proofs.Common.{◌≡◌, ℕ, zero, suc, ◌*◌, ◌/◌, ◌≤◌, ℤ, pos, negsuc, ◌*ℤ◌, neg_ℤ, ◌<ℤ◌, refl, ap, ◌∙◌, arith, SFits}
+use Rattle.std.proofs.Common.{◌≡◌, ℕ, zero, suc, ◌*◌, ◌/◌, ℤ, pos, negsuc, ◌*ℤ◌, neg_ℤ, ◌<ℤ◌, refl, ap, ◌∙◌, arith}
 use native.Mathlib.Nat as NatL
-use lib.Signed.{quot_z, mag}
-use mir.Syntax.{Width}
+use lib.Signed.{quot_z}
 use Rattle.exact.specs.Divisors.{Divides}
 use Rattle.exact.proofs.Ring.{lin}
 
@@ -19,16 +18,3 @@ exact (negsuc b) q h = absurd (omega (arith, lin))
 -- The quotient of a multiple, times the divisor, is the multiple.
 pub exact_back : (g x : ℤ) → pos 0 <ℤ g → Divides g x → g *ℤ quot_z x g ≡ x
 exact_back g x h (q, e) = rw (e, exact g q h)
-
-mag_neg : (n a : ℕ) → n ≤ suc a → mag (neg_ℤ (pos n)) ≤ a
-mag_neg zero a h = omega arith
-mag_neg (suc n) a h = omega arith
-
-mag_quot : (x g : ℤ) → pos 0 <ℤ g → mag (quot_z x g) ≤ mag x
-mag_quot (pos a) (pos b) h = NatL.div-le_self a b
-mag_quot (negsuc a) (pos b) h = mag_neg (suc a / b) a (NatL.div-le_self (suc a) b)
-mag_quot x (negsuc b) h = absurd (omega (arith, lin))
-
--- A quotient by a number above 0 fits where its dividend does.
-pub quot_fits : (w : Width) (x g : ℤ) → pos 0 <ℤ g → SFits w x → SFits w (quot_z x g)
-quot_fits w x g h f = record { sfits = omega (arith, mag_quot x g h, f.sfits) }

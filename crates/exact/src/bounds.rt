@@ -9,7 +9,7 @@ pub const WIDTH: i64 = 134_217_727;
 pub fn in_width(number: i64) -> bool
     ensures { result ≡ nat_le (unsigned_abs number) width }
 {
-    -WIDTH <= number && number <= WIDTH
+    (-WIDTH..=WIDTH).contains(&number)
 }
 
 // The product of two numbers in width, which fits.

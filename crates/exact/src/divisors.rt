@@ -3,7 +3,7 @@ ghost use Rattle.std.specs.Prelude.{suc, length, pos, ◌<ℤ◌};
 ghost use Rattle.exact.specs.Vectors.{entries, first_then};
 ghost use Rattle.exact.specs.Divisors.{Gcd, GcdOfTwo};
 
-// The greatest common divisor of two sizes, by Euclid's algorithm.
+// The greatest common divisor of two sizes, by Euclid's algorithm: no library at hand has one, and a recursion would be as long and take more of the stack.
 fn euclid(a: u64, b: u64) -> u64
     ensures { GcdOfTwo (pos a) (pos b) (pos result) }
 {
@@ -24,11 +24,12 @@ pub fn divisor(first: i64, numbers: &[i64]) -> i64
     ensures positive { pos 0 <ℤ result }
 {
     let mut common = first.unsigned_abs();
-    for i in 0..numbers.len() {
+    for number in numbers {
         if common == 1 {
             return 1;
         }
-        common = euclid(numbers[i].unsigned_abs(), common);
+        common = euclid(number.unsigned_abs(), common);
     }
+    // The cast keeps the number: it is at most `first`.
     common as i64
 }

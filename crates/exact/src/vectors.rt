@@ -11,9 +11,10 @@ pub fn dot(a: &[i64], b: &[i64]) -> i64
     requires widths { AllInWidth a.now × AllInWidth b.now }
     ensures { result ≡ dot (length a.now) (entries a.now) (entries b.now) }
 {
+    // A loop and no chain: a chain's sum of signed numbers has no bound that a proof could use.
     let mut sum = 0;
-    for i in 0..a.len() {
-        sum += product(a[i], b[i]);
+    for (x, y) in a.iter().zip(b) {
+        sum += product(*x, *y);
     }
     sum
 }

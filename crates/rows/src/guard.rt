@@ -1,10 +1,10 @@
 // Words that are put back as they were on every way out.
-ghost use Rattle.std.specs.Prelude.{◌≡◌, ◌≤◌, true, false, pos, ◌<ℤ◌};
-ghost use Rattle.exact.specs.Bounds.{InWidth, AllInWidth};
+ghost use Rattle.std.specs.Prelude.{◌≡◌, ◌≤◌, true, false};
+ghost use Rattle.exact.specs.Bounds.{AllInWidth};
 ghost use Rattle.rows.specs.Rewrites.{ScaledIn, ScaledOut};
 ghost use Rattle.rows.specs.Guards.{most_words};
 
-use crate::numbers::scaled_number;
+use crate::scale::Scale;
 
 // The words that are lent, and a copy of what they were.
 pub struct Guard<'a, const N: usize> {
@@ -34,22 +34,15 @@ impl<const N: usize> Drop for Guard<'_, N> {
 }
 
 // Whether every word is in width after it is scaled. The words are scaled in place, and put back.
-pub fn scales_in_width<const N: usize>(words: &mut [i64; N], by: i64, divisor: i64) -> bool
+pub fn scales_in_width<const N: usize>(words: &mut [i64; N], scale: Scale) -> bool
     requires size { N ≤ most_words }
-    requires widths { InWidth by × AllInWidth words.old }
-    requires positive { pos 0 <ℤ divisor }
+    requires widths { AllInWidth words.old }
     ensures same { words.new ≡ words.old }
-    ensures result { elim result [ true ↦ ScaledIn by divisor words.old | false ↦ ScaledOut by divisor words.old ] }
+    ensures result { elim result [ true ↦ ScaledIn scale.by scale.divisor words.old | false ↦ ScaledOut scale.by scale.divisor words.old ] }
 {
     let guard = Guard::new(words);
-    if by == divisor {
+    if scale.by == scale.divisor {
         return true;
     }
-    for i in 0..N {
-        match scaled_number(by, divisor, guard.words[i]) {
-            Ok(number) => guard.words[i] = number,
-            Err(_) => return false,
-        }
-    }
-    true
+    scale.scale_row(&mut guard.words[..]).is_ok()
 }

@@ -5,11 +5,12 @@ pub mod exchange;
 pub mod guard;
 pub mod matrix;
 pub mod numbers;
-pub mod numerators;
+pub mod pivot;
 pub mod row;
+pub mod scale;
 #[cfg(test)]
 mod tests;
 
 // A number that the exchange would write is out of width.
-#[derive(Clone, Copy)]
+#[derive(Clone, Copy, PartialEq, Eq, Debug)]
 pub struct OutOfWidth;

@@ -1,7 +1,6 @@
 // The numbers that an exchange writes, one at a time.
 ghost use Rattle.std.specs.Prelude.{◌≡◌, pos, ◌-ℤ◌, ◌*ℤ◌, ◌<ℤ◌, MatchResult, int_div};
 ghost use Rattle.exact.specs.Bounds.{InWidth};
-ghost use Rattle.rows.specs.Rewrites.{rewritten, scaled};
 
 use crate::OutOfWidth;
 use exact::bounds::{in_width, product};
@@ -27,7 +26,7 @@ pub fn divided(number: i64, divisor: i64) -> i64
 }
 
 // number / divisor, where it is in width.
-fn quotient(number: i64, divisor: i64) -> Result<i64, OutOfWidth>
+pub(crate) fn quotient(number: i64, divisor: i64) -> Result<i64, OutOfWidth>
     requires { pos 0 <ℤ divisor }
     ensures { MatchResult result (λ v. (v ≡ int_div number divisor) × InWidth v) (λ _. InWidth (int_div number divisor) → ⊥) }
 {
@@ -37,22 +36,4 @@ fn quotient(number: i64, divisor: i64) -> Result<i64, OutOfWidth>
     } else {
         Err(OutOfWidth)
     }
-}
-
-// (by * x - f * y) / divisor, where it is in width.
-pub fn rewritten_number(by: i64, divisor: i64, f: i64, x: i64, y: i64) -> Result<i64, OutOfWidth>
-    requires widths { InWidth by × InWidth f × InWidth x × InWidth y }
-    requires positive { pos 0 <ℤ divisor }
-    ensures { MatchResult result (λ v. (v ≡ rewritten by divisor f x y) × InWidth v) (λ _. InWidth (rewritten by divisor f x y) → ⊥) }
-{
-    quotient(difference(by, x, f, y), divisor)
-}
-
-// by * x / divisor, where it is in width.
-pub fn scaled_number(by: i64, divisor: i64, x: i64) -> Result<i64, OutOfWidth>
-    requires widths { InWidth by × InWidth x }
-    requires positive { pos 0 <ℤ divisor }
-    ensures { MatchResult result (λ v. (v ≡ scaled by divisor x) × InWidth v) (λ _. InWidth (scaled by divisor x) → ⊥) }
-{
-    quotient(product(by, x), divisor)
 }

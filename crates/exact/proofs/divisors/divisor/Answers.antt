@@ -6,8 +6,8 @@ use Rattle.exact.proofs.Divides.{div_pos, div_le}
 use Rattle.exact.proofs.Gcd.{gcd_alone, gcd_more, gcd_one, gcd_size, gcd_swap}
 use Rattle.exact.proofs.divisors.divisor.Goals as goal
 
-pub loop-i-init : goal.loop-i-init
-loop-i-init c =
+pub loop-number-init : goal.loop-number-init
+loop-number-init c =
     let h = c.ranges.first in
     let f = first_then c.args.first (entries c.args.numbers.now) in
     let e : pos c.unsigned_abs-common.result ≡ c.args.first = omega (arith, ints) in
@@ -17,29 +17,29 @@ pub returns-then-common-eq1 : goal.returns-then-common-eq1
 returns-then-common-eq1 c =
     let h = c.ranges.first in
     let f = first_then c.args.first (entries c.args.numbers.now) in
-    let I : Gcd (suc c.loop-i.i) f (pos c.loop-i.common) = simp to_z-of_z at c.loop-i.invariant in
-    let g : Gcd (suc c.loop-i.i) f (pos 1) = subst (Gcd (suc c.loop-i.i) f) (ap pos c.if-common-eq1.true) I in
-    record { greatest = gcd_one (suc c.loop-i.i) (suc (length c.args.numbers.now)) f (omega arith) g; positive = omega (arith, ints) }
+    let I : Gcd (suc c.loop-number.number-index) f (pos c.loop-number.common) = simp to_z-of_z at c.loop-number.invariant in
+    let g : Gcd (suc c.loop-number.number-index) f (pos 1) = subst (Gcd (suc c.loop-number.number-index) f) (ap pos c.if-common-eq1.true) I in
+    record { greatest = gcd_one (suc c.loop-number.number-index) (suc (length c.args.numbers.now)) f (omega arith) g; positive = omega (arith, ints) }
 
-pub loop-i-preserved : goal.loop-i-preserved
-loop-i-preserved c =
+pub loop-number-preserved : goal.loop-number-preserved
+loop-number-preserved c =
     let h = c.ranges.first in
     let f = first_then c.args.first (entries c.args.numbers.now) in
-    let x = entries c.args.numbers.now c.loop-i.i in
+    let x = entries c.args.numbers.now c.loop-number.number-index in
     let r = pos c.euclid-common.result in
     let hx : SFits w64 x = search rules in
-    let I : Gcd (suc c.loop-i.i) f (pos c.loop-i.common) = simp to_z-of_z at c.loop-i.invariant in
+    let I : Gcd (suc c.loop-number.number-index) f (pos c.loop-number.common) = simp to_z-of_z at c.loop-number.invariant in
     let e : c.unsigned_abs.result ≡ nat_abs x = simp to_z-of_z at c.unsigned_abs.ensures.value in
-    let g : GcdOfTwo (pos (nat_abs x)) (pos c.loop-i.common) r = subst (λ (n : ℕ). GcdOfTwo (pos n) (pos c.loop-i.common) r) e c.euclid-common.ensures in
-    simp (to_z-of_z, add-one) (gcd_more (suc c.loop-i.i) f (pos c.loop-i.common) r I (gcd_size (pos c.loop-i.common) x r (gcd_swap (pos (nat_abs x)) (pos c.loop-i.common) r g)))
+    let g : GcdOfTwo (pos (nat_abs x)) (pos c.loop-number.common) r = subst (λ (n : ℕ). GcdOfTwo (pos n) (pos c.loop-number.common) r) e c.euclid-common.ensures in
+    simp (to_z-of_z, add-one) (gcd_more (suc c.loop-number.number-index) f (pos c.loop-number.common) r I (gcd_size (pos c.loop-number.common) x r (gcd_swap (pos (nat_abs x)) (pos c.loop-number.common) r g)))
 
 -- The divisor lies between 1 and the first number, which it divides.
-between : (c : goal.After-loop-i) → (pos 0 <ℤ pos c.loop-i.common) × (pos c.loop-i.common ≤ℤ c.args.first)
+between : (c : goal.After-loop-number) → (pos 0 <ℤ pos c.loop-number.common) × (pos c.loop-number.common ≤ℤ c.args.first)
 between c =
     let h = c.ranges.first in
-    let d : Divides (pos c.loop-i.common) c.args.first = simp to_z-of_z at (c.loop-i.invariant.divides 0 (omega arith)) in
-    let p = div_pos (pos c.loop-i.common) c.args.first c.loop-i.invariant.nonneg c.requires d in
-    (p, div_le (pos c.loop-i.common) c.args.first p c.requires d)
+    let d : Divides (pos c.loop-number.common) c.args.first = simp to_z-of_z at (c.loop-number.invariant.divides 0 (omega arith)) in
+    let p = div_pos (pos c.loop-number.common) c.args.first c.loop-number.invariant.nonneg c.requires d in
+    (p, div_le (pos c.loop-number.common) c.args.first p c.requires d)
 
 pub overflow_cast-result : goal.overflow_cast-result
 overflow_cast-result c = let h = c.ranges.first in omega (arith, ints, (between c).1)
@@ -47,6 +47,6 @@ overflow_cast-result c = let h = c.ranges.first in omega (arith, ints, (between 
 pub returns : goal.returns
 returns c =
     let h = c.ranges.first in
-    let b : c.loop-i.common < 2 ^ 63 = omega (arith, ints, (between c).1) in
-    let e : length c.args.numbers.now ≡ c.loop-i.i = omega arith in
-    rw (to_z_pos w64 c.loop-i.common b, e) (record { greatest = simp to_z-of_z at c.loop-i.invariant; positive = (between c).0 })
+    let b : c.loop-number.common < 2 ^ 63 = omega (arith, ints, (between c).1) in
+    let e : length c.args.numbers.now ≡ c.loop-number.number-index = omega arith in
+    rw (to_z_pos w64 c.loop-number.common b, e) (record { greatest = simp to_z-of_z at c.loop-number.invariant; positive = (between c).0 })

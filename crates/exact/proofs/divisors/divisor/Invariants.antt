@@ -4,5 +4,5 @@ use Rattle.exact.specs.Divisors.{Gcd}
 use Rattle.exact.proofs.divisors.divisor.Given as goal
 
 -- `common` is the greatest common divisor so far.
-abbrev pub invariant-loop-i : goal.invariant-loop-i
-invariant-loop-i l = Gcd (suc l.i) (first_then l.first (entries l.numbers)) (pos l.common)
+abbrev pub invariant-loop-number : goal.invariant-loop-number
+invariant-loop-number l = Gcd (suc l.number-index) (first_then l.first (entries l.numbers)) (pos l.common)

@@ -1,9 +1,7 @@
 use Rattle.std.proofs.Common.{◌≡◌, ◌+◌, ◌-◌, ◌*◌, length, sym, arith}
-use Rattle.std.proofs.lemmas.Int.{to_z-of_z, ints}
 use Rattle.std.proofs.lemmas.Result.{MatchResult-from_err}
-use Rattle.rows.specs.Rewrites.{RowsOut}
 use Rattle.rows.proofs.Grid.{row_in, part_length, in_width_part, passed, done, refused}
-use Rattle.rows.proofs.matrix.rewrite_rows.Goals as goal
+use Rattle.rows.proofs.scale.Scale.rewrite_rows.Goals as goal
 
 pub loop-r-preserved-then-r-pivot_row : goal.loop-r-preserved-then-r-pivot_row
 loop-r-preserved-then-r-pivot_row c = passed _ _ _ _ _ _ _ _ _ c.requires.sizes.1 c.loop-r.invariant c.if-r-pivot_row.true
@@ -27,17 +25,14 @@ rewrite_row-requires c =
     let l = part_length c.loop-r.r w c.loop-r.words (omega arith) in
     record {
       sizes = (sym l, omega arith);
-      widths = (omega (arith, ints), in_width_part c.loop-r.r w c.loop-r.words c.loop-r.invariant.widths, c.requires.widths.2);
-      positive = omega (arith, ints);
+      widths = (in_width_part c.loop-r.r w c.loop-r.words c.loop-r.invariant.widths, c.requires.widths.1);
     }
 
 pub returns-in_err-rewrite_row : goal.returns-in_err-rewrite_row
 returns-in_err-rewrite_row c =
     let w = length c.args.pivot.now in
     let i = row_in c.loop-r.r w c.args.count c.loop-r-test.true in
-    let h1 = c.ranges.by in let h2 = c.ranges.divisor in
-    let o : RowsOut c.args.by c.args.divisor c.args.column c.args.pivot_row w c.args.count c.args.pivot.now c.args.words.now =
-    simp to_z-of_z at (refused _ _ _ _ w _ _ c.loop-r.words c.loop-r.r c.requires.sizes.1 c.loop-r.invariant c.args.count c.if-r-pivot_row.false c.loop-r-test.true (omega arith) c.in_err-rewrite_row.ensures) in
+    let o = refused _ _ _ _ w _ _ c.loop-r.words c.loop-r.r c.requires.sizes.1 c.loop-r.invariant c.args.count c.if-r-pivot_row.false c.loop-r-test.true (omega arith) c.in_err-rewrite_row.ensures in
     MatchResult-from_err c.from_residual.result _ _ c.from_residual.ensures.0 (λ y. o)
 
 pub loop-r-preserved : goal.loop-r-preserved

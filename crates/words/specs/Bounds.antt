@@ -1,5 +1,5 @@
 -- The bounds on a plant's counts and numbers.
-use Rattle.std.specs.Prelude.{ℕ, ◌≤◌, ℤ, pos, neg_ℤ, ◌≤ℤ◌}
+use Rattle.std.specs.Prelude.{ℕ, ◌≤◌, Bool, ℤ, pos, neg_ℤ, ◌≤ℤ◌, nat_le, unsigned_abs}
 
 abbrev pub most_commands : ℕ
 most_commands = 4
@@ -21,3 +21,7 @@ Counted m n d = (1 ≤ m) × (m ≤ most_commands) × (1 ≤ n) × (n ≤ most_l
 -- A number of some plant.
 abbrev pub Value : ℤ → Type 0
 Value z = (neg_ℤ (pos largest_value) ≤ℤ z) × (z ≤ℤ pos largest_value)
+
+-- Is it one?
+abbrev pub in_bounds : ℤ → Bool
+in_bounds z = nat_le (unsigned_abs z) largest_value

@@ -1,12 +1,12 @@
 -- What is wrong with one word at its place, and with a whole list of words.
-use Rattle.std.specs.Prelude.{◌≡◌, ℕ, ◌+◌, ◌<◌, ◌≤◌, Bool, false, cond, ◌&&◌, List, length, is_some, Some, None, Option, ◌==◌, nat_le, slice_index, unsigned_abs}
-use Rattle.words.specs.Bounds.{most_commands, most_limits, most_readings, largest_value}
+use Rattle.std.specs.Prelude.{◌≡◌, ℕ, ◌+◌, ◌<◌, ◌≤◌, Bool, false, cond, ◌&&◌, List, length, is_some, Some, None, Option, ◌==◌, nat_le, slice_index}
+use Rattle.words.specs.Bounds.{most_commands, most_limits, most_readings, in_bounds}
 use Rattle.words.specs.Words.{kind_bits, bits_of_payload, payload}
 use Rattle.words.specs.Kinds.{code}
 use Rattle.words.specs.Layout.{shape_in, spare_in, close_place, due}
 use Rattle.words.specs.declared.counts.Shape.{Shape}
 use Rattle.words.specs.declared.kind.Kind.{Kind}
-use Rattle.words.specs.declared.kind.Kind.TheVariants.{Head, Gain, Coefficient, Constant, Slope, Close as CloseKind, Other}
+use Rattle.words.specs.declared.kind.Kind.TheVariants.{Head, Gain, Coefficient, Constant, Slope, Close as CloseKind}
 use Rattle.words.specs.declared.refusal.Refusal.{Refusal}
 use Rattle.words.specs.declared.refusal.Refusal.TheVariants.{Short, WrongKind, Counts, Value, Close}
 
@@ -23,9 +23,9 @@ head_fits w =
 
 -- Is the payload a number of a plant?
 abbrev pub value_fits : ℕ → Bool
-value_fits w = nat_le (unsigned_abs (payload w)) largest_value
+value_fits w = in_bounds (payload w)
 
--- What is wrong with the payload of a word of a kind at place k.
+-- What is wrong with the payload of a word of a kind at place k. The other kinds are due nowhere.
 abbrev pub payload_fault : Kind → ℕ → ℕ → Option Refusal
 payload_fault Head w k = unless (head_fits w) Counts
 payload_fault Gain w k = unless (value_fits w) (Value k)
@@ -33,11 +33,16 @@ payload_fault Coefficient w k = unless (value_fits w) (Value k)
 payload_fault Constant w k = unless (value_fits w) (Value k)
 payload_fault Slope w k = unless (value_fits w) (Value k)
 payload_fault CloseKind w k = unless (bits_of_payload w == k) (Close k)
-payload_fault Other w k = None
+payload_fault kind w k = None
 
 -- What is wrong with a word at place k, where a kind is due: first its kind, then its payload.
 abbrev pub word_fault : Kind → ℕ → ℕ → Option Refusal
 word_fault kind w k = cond (kind_bits w == code kind) (payload_fault kind w k) (Some (WrongKind k))
+
+-- The same where it may be that no word is due: then each is of a wrong kind.
+abbrev pub due_fault : Option Kind → ℕ → ℕ → Option Refusal
+due_fault (Some kind) w k = word_fault kind w k
+due_fault None w k = Some (WrongKind k)
 
 module _ (ws : List ℕ) where
   -- The counts that the first word says.

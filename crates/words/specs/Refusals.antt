@@ -1,5 +1,5 @@
--- The number, the layer and the place of each refusal.
-use Rattle.std.specs.Prelude.{◌≡◌, ℕ}
+-- The number, the layer and the place of each refusal, and its text.
+use Rattle.std.specs.Prelude.{◌≡◌, ℕ, List, ◌++◌, codes, decimal}
 use Rattle.words.specs.declared.refusal.Layer.{Layer}
 use Rattle.words.specs.declared.refusal.Layer.TheVariants.{Words, Plant, Tableau, Map}
 use Rattle.words.specs.declared.refusal.Shown.{Shown}
@@ -78,3 +78,10 @@ place_of NotYet = 0
 -- Number, layer and place tell every two refusals apart.
 abbrev pub ToldApart : Type 0
 ToldApart = (e f : Refusal) → number_of e ≡ number_of f → level (layer_of e) ≡ level (layer_of f) → place_of e ≡ place_of f → e ≡ f
+
+-- Three numbers, with blanks between them.
+abbrev pub three : ℕ → ℕ → ℕ → List ℕ
+three a b c = decimal a ++ (codes " " ++ (decimal b ++ (codes " " ++ decimal c)))
+
+abbrev pub refusal_text : Refusal → List ℕ
+refusal_text e = three (number_of e) (level (layer_of e)) (place_of e)

@@ -10,7 +10,7 @@ pub struct Shape {
 }
 
 // The counts of a plant: a shape in bounds.
-#[derive(Clone, Copy)]
+#[derive(Clone, Copy, PartialEq, Eq, Debug)]
 pub struct Counts {
     pub(crate) shape: Shape,
     ghost fit: { Counted shape.commands shape.limits shape.readings },

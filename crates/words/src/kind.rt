@@ -1,61 +1,57 @@
 // The kinds of words.
+ghost use Rattle.std.specs.Prelude.{◌≡◌};
 ghost use Rattle.words.specs.Words.{kind_bits};
-ghost use Rattle.words.specs.Kinds.{IsKind};
+ghost use Rattle.words.specs.Kinds.{code, IsKind};
 
 use crate::payload::kind_number;
 
-// The kinds of a plant's words, and one for all others.
+// The kinds of a plant's words, and from the seventh on those of words that stand in no plant: a range, a reading, and the
+// words of a stored map.
 #[derive(Clone, Copy, PartialEq, Eq, Debug)]
 pub enum Kind {
-    Head,
-    Gain,
-    Coefficient,
-    Constant,
-    Slope,
-    Close,
-    Other,
+    Head = 1,
+    Gain = 2,
+    Coefficient = 3,
+    Constant = 4,
+    Slope = 5,
+    Close = 6,
+    Range = 7,
+    Reading = 8,
+    MapHead = 9,
+    Mask = 10,
+    Divisor = 11,
+    Law = 12,
+    Slack = 13,
+    MapClose = 14,
 }
 
-pub const HEAD: u32 = 1;
+impl From<Kind> for u32 {
+    ghost from_gives = { λ kind number. number ≡ code kind };
 
-pub const GAIN: u32 = 2;
+    fn from(kind: Kind) -> u32 {
+        kind as u32
+    }
+}
 
-pub const COEFFICIENT: u32 = 3;
-
-pub const CONSTANT: u32 = 4;
-
-pub const SLOPE: u32 = 5;
-
-pub const CLOSE: u32 = 6;
-
-// The kinds of words that stand in no plant: a range, a reading, and the words of a stored map.
-pub const RANGE: u32 = 7;
-
-pub const READING: u32 = 8;
-
-pub const MAP_HEAD: u32 = 9;
-
-pub const MASK: u32 = 10;
-
-pub const DIVISOR: u32 = 11;
-
-pub const LAW: u32 = 12;
-
-pub const SLACK: u32 = 13;
-
-pub const MAP_CLOSE: u32 = 14;
-
-// The kind of a word.
-pub fn kind_of(word: u32) -> Kind
+// The kind of a word; none where its number is 0 or 15. The language has no way from a number to a variant but a match.
+pub fn kind_of(word: u32) -> Option<Kind>
     ensures { IsKind (kind_bits word) result }
 {
     match kind_number(word) {
-        HEAD => Kind::Head,
-        GAIN => Kind::Gain,
-        COEFFICIENT => Kind::Coefficient,
-        CONSTANT => Kind::Constant,
-        SLOPE => Kind::Slope,
-        CLOSE => Kind::Close,
-        _ => Kind::Other,
+        1 => Some(Kind::Head),
+        2 => Some(Kind::Gain),
+        3 => Some(Kind::Coefficient),
+        4 => Some(Kind::Constant),
+        5 => Some(Kind::Slope),
+        6 => Some(Kind::Close),
+        7 => Some(Kind::Range),
+        8 => Some(Kind::Reading),
+        9 => Some(Kind::MapHead),
+        10 => Some(Kind::Mask),
+        11 => Some(Kind::Divisor),
+        12 => Some(Kind::Law),
+        13 => Some(Kind::Slack),
+        14 => Some(Kind::MapClose),
+        _ => None,
     }
 }

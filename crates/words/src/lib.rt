@@ -13,3 +13,5 @@ mod reads;
 pub mod refusal;
 mod state;
 mod steps;
+#[cfg(test)]
+mod tests;

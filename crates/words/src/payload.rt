@@ -10,7 +10,9 @@ const SIGN: u32 = 0x0800_0000;
 
 const SPAN: i32 = 0x1000_0000;
 
-// The largest number that a payload holds; the least is one below its negative.
+// The least number that a payload holds, and the largest.
+const LEAST_PAYLOAD: i32 = -0x0800_0000;
+
 const LARGEST_PAYLOAD: i32 = 0x07ff_ffff;
 
 const MOST_KINDS: u32 = 16;
@@ -34,6 +36,7 @@ pub fn payload(word: u32) -> i32
     ensures { result ≡ payload_of word }
 {
     let low = payload_bits(word);
+    // The sign by a subtraction, which says what the payload means; each cast keeps the number, as is proved.
     if low < SIGN {
         low as i32
     } else {
@@ -45,7 +48,8 @@ pub fn payload(word: u32) -> i32
 fn bits_of(number: i32) -> Option<u32>
     ensures { MatchOption result (HeldInPayload number → ⊥) (λ b. (b < 2 ^ 28) × (signed b ≡ number)) }
 {
-    if number > LARGEST_PAYLOAD || number < -LARGEST_PAYLOAD - 1 {
+    // Each cast keeps the number, as is proved; `try_from` would add a refusal that cannot come.
+    if !(LEAST_PAYLOAD..=LARGEST_PAYLOAD).contains(&number) {
         None
     } else if number >= 0 {
         Some(number as u32)
@@ -54,15 +58,14 @@ fn bits_of(number: i32) -> Option<u32>
     }
 }
 
-// The word of a kind with a number for its payload; none where four bits do not hold the kind or 28 bits the number.
+// The word of a kind with a number for its payload; none where four bits do not hold the kind or 28 bits the number. The kind
+// is any number, also one that `Kind` does not have, so that no caller is asked for more.
 pub fn word_of(kind: u32, number: i32) -> Option<u32>
     ensures { MatchOption result (kind < 2 ^ 4 → HeldInPayload number → ⊥) (IsWord kind number) }
 {
     if kind >= MOST_KINDS {
         return None;
     }
-    match bits_of(number) {
-        Some(bits) => Some((kind << PAYLOAD_BITS) | bits),
-        None => None,
-    }
+    let bits = bits_of(number)?;
+    Some((kind << PAYLOAD_BITS) | bits)
 }

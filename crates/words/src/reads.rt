@@ -1,8 +1,8 @@
 // What the reader hands out.
-ghost use Rattle.std.specs.Prelude.{◌≡◌, ◌+◌, ◌≤◌, true, false, length, MatchOption, MatchResult};
-ghost use Rattle.words.specs.Faults.{LaidOut, Faulty, RightBefore, shape_of};
+ghost use Rattle.std.specs.Prelude.{◌≡◌, ◌+◌, ◌≤◌, false, length, MatchResult};
+ghost use Rattle.words.specs.Faults.{Faulty};
 ghost use Rattle.words.specs.Parts.{Handed, PartAt, words_in, ReadWhole};
-ghost use Rattle.words.specs.Steps.{span as span_of, StateFits, Stands, done};
+ghost use Rattle.words.specs.Steps.{span as span_of, Stands, done};
 
 use crate::counts::Counts;
 use crate::part::Part;
@@ -13,51 +13,14 @@ use crate::state::State;
 impl State {
     // The number of words of the part that begins here.
     fn span(&self) -> usize
-        requires { StateFits self.now }
         ensures { result ≡ span_of self.now }
     {
         match *self {
             State::Head | State::Close(_) => 1,
             State::Gain(_, left) => left,
-            State::Coefficient(shape, _, _) => shape.commands + (1 + shape.readings),
+            State::Coefficient(counts, _, _) => counts.shape.commands + (1 + counts.shape.readings),
             State::Constant(..) | State::Slope(..) | State::Done(_) => 0,
         }
-    }
-}
-
-// Takes the words of the part that begins at a place, and gives the state after them.
-fn read_part(words: &[u32], from: usize, first: State) -> Result<State, Refusal>
-    requires stands { Stands words.now from first }
-    requires more { done first ≡ false }
-    ensures { MatchResult result (λ s. Stands words.now (from + span_of first) s) (Faulty words.now) }
-{
-    let mut state = first;
-    let mut at = from;
-    for _taken in 0..first.span() {
-        if at >= words.len() {
-            return Err(Refusal::Short(at));
-        }
-        state.step(words[at], at)?;
-        at += 1;
-    }
-    Ok(state)
-}
-
-// The part that begins at a place.
-fn part_at<'a>(words: &'a [u32], from: usize, first: State) -> Part<'a>
-    requires stands { Stands words.now from first }
-    requires more { done first ≡ false }
-    requires long { from + span_of first ≤ length words.now }
-    ensures part { PartAt words.now from result }
-    ensures span { words_in result ≡ span_of first }
-{
-    let part = &words[from..from + first.span()];
-    match first {
-        State::Head => Part::Head(part, from),
-        State::Gain(..) => Part::Gains(part, from),
-        State::Coefficient(..) => Part::Limit(part, from),
-        State::Close(_) => Part::Close(part, from),
-        State::Constant(..) | State::Slope(..) | State::Done(_) => unreachable(),
     }
 }
 
@@ -74,27 +37,58 @@ impl<'a> Reader<'a> {
         }
     }
 
+    // Takes the words of the part that begins here, and gives the state after them.
+    fn read_part(&self) -> Result<State, Refusal>
+        ensures { MatchResult result (λ s. Stands self.now.words.now (self.now.at + span_of self.now.state) s) (Faulty self.now.words.now) }
+    {
+        let mut state = self.state;
+        // By place, which each refusal tells.
+        for at in self.at..self.at + self.state.span() {
+            let Some(&word) = self.words.get(at) else {
+                return Err(Refusal::Short(at));
+            };
+            state.step(word, at)?;
+        }
+        Ok(state)
+    }
+
+    // The part that begins here.
+    fn part(&self) -> Part<'a>
+        requires more { done self.now.state ≡ false }
+        requires long { self.now.at + span_of self.now.state ≤ length self.now.words.now }
+        ensures part { PartAt self.now.words.now self.now.at result }
+        ensures span { words_in result ≡ span_of self.now.state }
+    {
+        let from = self.at;
+        let part = &self.words[from..from + self.state.span()];
+        match self.state {
+            State::Head => Part::Head(part, from),
+            State::Gain(..) => Part::Gains(part, from),
+            State::Coefficient(..) => Part::Limit(part, from),
+            State::Close(_) => Part::Close(part, from),
+            State::Constant(..) | State::Slope(..) | State::Done(_) => unreachable!(),
+        }
+    }
+
     // The next part, or none once the close is read. A refusal leaves the reader where it stands.
     pub fn next(&mut self) -> Result<Option<Part<'a>>, Refusal>
         ensures words { self.new.words.now ≡ self.old.words.now }
         ensures handed { Handed self.old.words.now self.old.at self.new.at result }
     {
-        let words = self.words;
-        let from = self.at;
-        let first = self.state;
-        if let State::Done(_) = first {
+        if let State::Done(_) = self.state {
             return Ok(None);
         }
-        let state = read_part(words, from, first)?;
-        let at = from + first.span();
-        if let State::Done(_) = state {
-            if at < words.len() {
-                return Err(Refusal::Close(at));
-            }
+        let state = self.read_part()?;
+        let at = self.at + self.state.span();
+        if let State::Done(_) = state
+            && at < self.words.len()
+        {
+            return Err(Refusal::Close(at));
         }
+        let part = self.part();
         self.at = at;
         self.state = state;
-        Ok(Some(part_at(words, from, first)))
+        Ok(Some(part))
     }
 
     // The counts that the head says, once the close is read.
@@ -102,7 +96,7 @@ impl<'a> Reader<'a> {
         ensures { ReadWhole self.now.words.now self.now.at result }
     {
         match self.state {
-            State::Done(shape) => Counts::new(shape),
+            State::Done(counts) => Some(counts),
             _ => None,
         }
     }

@@ -1,6 +1,8 @@
 // Every way in which a call can say no.
-ghost use Rattle.std.specs.Prelude.{◌≡◌};
-ghost use Rattle.words.specs.Refusals.{number_of, layer_of, level as level_of, place_of};
+ghost use Rattle.std.specs.Prelude.{◌≡◌, Some};
+ghost use Rattle.words.specs.Refusals.{number_of, layer_of, level, place_of, refusal_text};
+
+use std::fmt;
 
 // The layer that a refusal comes from, numbered from the lowest up.
 #[derive(Clone, Copy, PartialEq, Eq, Debug)]
@@ -12,6 +14,7 @@ pub enum Layer {
 }
 
 // What shows that no command keeps every limit: a limit that finds no leaving row, or a finished map without a region there.
+// An optional limit would not say what the map shows.
 #[derive(Clone, Copy, PartialEq, Eq, Debug)]
 pub enum Shown {
     ByLimit(usize),
@@ -53,15 +56,16 @@ pub enum Refusal {
     NotYet,
 }
 
-impl Layer {
-    pub fn level(self) -> u32
-        ensures { result ≡ level_of self }
-    {
-        self as u32
+impl From<Layer> for u32 {
+    ghost from_gives = { λ layer number. number ≡ level layer };
+
+    fn from(layer: Layer) -> u32 {
+        layer as u32
     }
 }
 
 impl Refusal {
+    // By cases: variants with a place have no number for `as`.
     pub fn number(self) -> u32
         ensures { result ≡ number_of self }
     {
@@ -127,5 +131,17 @@ impl Refusal {
             | Refusal::NoCommand(Shown::ByMap)
             | Refusal::NotYet => 0,
         }
+    }
+}
+
+// Its number, the number of its layer and its place, with blanks between them.
+impl fmt::Display for Refusal {
+    ghost output = { λ refusal. Some (refusal_text refusal) };
+
+    fn fmt<W: fmt::Write>(&self, f: &mut fmt::Formatter<W>) -> fmt::Result {
+        let number = self.number();
+        let layer = u32::from(self.layer());
+        let place = self.place();
+        write!(f, "{number} {layer} {place}")
     }
 }

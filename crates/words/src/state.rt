@@ -1,16 +1,16 @@
 // Where the reader of a plant's words stands.
-use crate::counts::Shape;
+use crate::counts::Counts;
 
 // Each state waits for a word of one kind. It has what the head says, how many words of that kind are still to come in a
 // row, and within a limit how many limits are still to come, this one included.
 #[derive(Clone, Copy)]
 pub(crate) enum State {
     Head,
-    Gain(Shape, usize),
-    Coefficient(Shape, usize, usize),
-    Constant(Shape, usize),
-    Slope(Shape, usize, usize),
-    Close(Shape),
+    Gain(Counts, usize),
+    Coefficient(Counts, usize, usize),
+    Constant(Counts, usize),
+    Slope(Counts, usize, usize),
+    Close(Counts),
     // The close has been read.
-    Done(Shape),
+    Done(Counts),
 }

@@ -6,11 +6,11 @@ use Rattle.words.specs.Words.{signed}
 use Rattle.words.proofs.payload.word_of.Goals as goal
 
 -- The kind and the bits lie in places of their own, so the word is their sum.
-pub returns-in-Some : goal.returns-in-Some
-returns-in-Some c =
+pub returns : goal.returns
+returns c =
     let k = c.args.kind in
-    let b = c.in-Some.bits in
-    let e = c.in-Some.ensures in
+    let b = c.in_ok-bits.bits in
+    let e = c.in_ok-bits.ensures in
     let whole : bit_or (k * 268435456) b ≡ k * 268435456 + b = or_shifted k 28 b e.0 in
     let inside : (k * 268435456) % 4294967296 ≡ k * 268435456 = omega arith in
     let low : (k * 268435456 + b) % 268435456 ≡ b = omega (arith, e.0) in

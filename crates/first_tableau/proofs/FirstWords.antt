@@ -1,17 +1,18 @@
 -- The words with the denominator, the limits and the rows of the tableau of the artificial limits.
-use Rattle.std.proofs.Common.{◌≡◌, ℕ, ◌+◌, ◌-◌, ◌*◌, ◌<◌, ◌≢◌, List, length, set, ℤ, pos, ap, ◌∙◌, arith, get_or-set_other, get_or-set_same, rules, below_more}
+use Rattle.std.proofs.Common.{◌≡◌, ℕ, ◌+◌, ◌-◌, ◌*◌, ◌<◌, ◌≤◌, List, length, set, take, drop, ℤ, pos, sym, ap, subst, ◌∙◌, arith, get_or-set_same, length-set, length-drop, rules}
 use borrow.Rule.Slice.PartMut.{put_mid}
 use Rattle.std.proofs.lemmas.Nat.{mul-add-lt}
-use Rattle.std.proofs.lemmas.List.{get_or-drop}
+use Rattle.std.proofs.lemmas.List.{get_or-drop, take_rest}
 use Rattle.std.proofs.lemmas.Slice.{overwrites}
 use Rattle.exact.specs.Vectors.{entries}
+use Rattle.words.specs.declared.counts.Shape.{Shape}
 use Rattle.plant.specs.Meaning.{Meaning, Bounded, shape_of}
 use Rattle.rows.proofs.Grid.{below, within}
 use Rattle.tableau.specs.Plants.{commands, limits, all_columns}
 use Rattle.tableau.proofs.Searches.{first_corner}
 use Rattle.tableau_words.specs.Layout.{row_width, row_count, first_row, size, number_at}
 use Rattle.tableau_words.specs.Held.{Held}
-use Rattle.plant_table.specs.Places.{RowsHold}
+use Rattle.plant_table.specs.Places.{Holds, RowsHold}
 use Rattle.first_tableau.specs.First.{HoldsFirst, first_inverse, first_number, first_reading_row}
 use Rattle.first_tableau.proofs.FirstNumbers.{first_in_width}
 use Rattle.first_tableau.proofs.Columns.{in_basis, in_readings}
@@ -20,12 +21,25 @@ use Rattle.first_tableau.proofs.Columns.{in_basis, in_readings}
 abbrev pub Begun : ℕ → ℕ → List ℤ → Type 0
 Begun n rows ws = (entries ws 0 ≡ pos 1) × ((r : ℕ) → r < rows → entries ws (1 + r) ≡ pos (n + r))
 
-pub limit_written : (n r : ℕ) (ws : List ℤ) (z : ℤ) → 1 + r < length ws → z ≡ pos (n + r) → Begun n r ws → Begun n (r + 1) (set ws (1 + r) z)
-limit_written n r ws z inside e old =
-    let apart : 0 ≢ 1 + r = omega arith in (
-      get_or-set_other ws (1 + r) 0 z (pos 0) apart ∙ old.0,
-      below_more _ _ (λ q l. let ne : 1 + q ≢ 1 + r = omega arith in get_or-set_other ws (1 + r) (1 + q) z (pos 0) ne ∙ old.1 q l) (get_or-set_same ws (1 + r) z (pos 0) inside ∙ e),
-    )
+module _ (n m k : ℕ) (ws ls : List ℤ) (whole : k ≡ m) (inside : 1 + m ≤ length ws) (long : length ls ≡ m) where
+  -- The words with the denominator and the limits written.
+  abbrev pub begun_words : List ℤ
+  begun_words = put_mid 1 k (set ws 0 (pos 1)) ls
+
+  one_long : length (set ws 0 (pos 1)) ≡ length ws
+  one_long = length-set ws 0 (pos 1)
+
+  pub begun_long : length begun_words ≡ length ws
+  begun_long = let one = one_long in search (rules, overwrites)
+
+  pub limits_written : Holds m (λ r. pos (n + r)) ls → Begun n m begun_words
+  limits_written held =
+      let ones = set ws 0 (pos 1) in
+      let in' : 1 + m ≤ length ones = omega (arith, one_long) in
+      rw whole (
+        below 1 m ones ls in' long 0 (omega arith) ∙ get_or-set_same ws 0 (pos 1) (pos 0) (omega arith),
+        λ r l. within 1 m ones ls in' long r l ∙ held r l,
+      )
 
 module _ (p : Meaning) (ws ys : List ℤ) (long : length ws ≡ size (shape_of p)) (rows_long : length ys ≡ length ws - first_row (shape_of p))
     (begun : Begun (limits p) (commands p) ws)
@@ -71,3 +85,12 @@ module _ (p : Meaning) (ws ys : List ℤ) (long : length ws ≡ size (shape_of p
     held = all_held;
     in_width = first_in_width p B;
   }
+
+-- The same where the code's counts are known to be the plant's.
+pub finished : (p : Meaning) → Bounded p → (s : Shape) → s ≡ shape_of p → (ws ys : List ℤ) → length ws ≡ size (shape_of p) → length ys ≡ length (take (length ws - first_row s) (drop (first_row s) ws))
+    → Begun s.limits s.commands ws → RowsHold (row_width (shape_of p)) (row_count (shape_of p)) (row_width (shape_of p)) (first_number p) ys
+    → HoldsFirst p (put_mid (first_row s) (length ws - first_row s) ws ys)
+finished p B s same ws ys long cut begun rows =
+    let whole : length ys ≡ length ws - first_row s = cut ∙ ap length (take_rest ws (first_row s)) ∙ length-drop (first_row s) ws in
+    subst (λ (x : Shape). length ys ≡ length ws - first_row x → Begun x.limits x.commands ws → HoldsFirst p (put_mid (first_row x) (length ws - first_row x) ws ys)) (sym same)
+    (λ rest start. holds_first p ws ys long rest start rows B) whole begun

@@ -21,10 +21,7 @@ const SIZE: usize = 35;
 
 // The first tableau of a plant with the counts of plant K.
 fn first_tableau(plant_words: &[u32]) -> Result<[i64; SIZE], Fail> {
-    let Ok(counts) = load(plant_words) else {
-        return Err(Fail::new("the words are a plant"));
-    };
-    let table = Table::of(&Written::new(plant_words, counts));
+    let table = Table::of(&Written::new(plant_words, load(plant_words)?));
     let shape = table.shape();
     if shape.commands != 2 || shape.limits != 5 || shape.readings != 1 {
         return Err(Fail::new("2 commands, 5 limits and 1 reading are due"));

@@ -32,7 +32,7 @@ module _ (p : Meaning) (c : Shape) where
 
 -- A ranged plant with this table means so over a plant that means p.
 abbrev pub ranged_by : RangeTable → Meaning → Meaning
-ranged_by t p = ranged p t.shape t.lows t.highs
+ranged_by t p = ranged p t.counts.shape t.lows t.highs
 
 -- Which limit stands at place j from 1, in a plant whose table has these counts.
 abbrev pub RowAt : Shape → ℕ → Option Row → Type 0
@@ -50,6 +50,6 @@ RangeAnswer p lows highs (Err e) = RangeFaulty lows highs (shape_of p) e
 -- The table that lows and highs make over a plant with these counts.
 pub record Tabled (c : Shape) (lows highs : List ℤ) (t : RangeTable) : Type 0 where
   pub fits : RangesFit lows highs c
-  pub shape : t.shape ≡ c
+  pub shape : t.counts.shape ≡ c
   pub same_lows : (i : ℕ) → i < c.commands → slice_index_or t.lows i (pos 0) ≡ slice_index_or lows i (pos 0)
   pub same_highs : (i : ℕ) → i < c.commands → slice_index_or t.highs i (pos 0) ≡ slice_index_or highs i (pos 0)

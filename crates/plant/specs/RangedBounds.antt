@@ -8,7 +8,7 @@ use Rattle.words.specs.Bounds.{Value}
 use Rattle.words.specs.declared.counts.Shape.{Shape}
 use Rattle.plant.specs.Tables.{at_place, within, table}
 use Rattle.plant.specs.TableLaws.{length_table, each_of_table, nth_front, nth_back, by_test}
-use Rattle.plant.specs.Meaning.{Limit, Meaning, Values, Fits, Bounded, shape_of, gain_of}
+use Rattle.plant.specs.Meaning.{Limit, Meaning, Values, Fits, Bounded, shape_of, gain_of, coefficient_of, constant_of, slope_of}
 use Rattle.plant.specs.WrittenBounds.{zero_is_value}
 use Rattle.plant.specs.Ranges.{alone, range_limits}
 use Rattle.plant.specs.Ranged.{or_zero, kept_limit, ranged, ranged_by}
@@ -44,17 +44,31 @@ one_is_value = (record { le = tt }, record { le = tt })
 minus_one_is_value : Value (negsuc 0)
 minus_one_is_value = (record { le = tt }, record { le = tt })
 
-module _ (p : Meaning) (B : Bounded p) (c : Shape) where
+-- A number of a plant, or 0 where it is absent.
+module _ (p : Meaning) (B : Bounded p) where
   number_below : (j : ℕ) (g : Limit → Option ℤ) → ((l : Limit) → Fits (shape_of p) l → Value (or_zero (g l))) → Value (or_zero (within (at_place p.limits j) g))
   number_below j g v = value_within (at_place p.limits j) g (λ l e. v l (B.limits (j - 1) l (at_some p.limits j l e)))
 
+  pub gain_value : (i : ℕ) → Value (or_zero (gain_of p i))
+  gain_value i = value_at p.gains B.gains i
+
+  pub coefficient_value : (j i : ℕ) → Value (or_zero (coefficient_of p j i))
+  coefficient_value j i = number_below j (λ l. at_place l.coefficients i) (λ l F. value_at l.coefficients F.coefficients i)
+
+  pub constant_value : (j : ℕ) → Value (or_zero (constant_of p j))
+  constant_value j = number_below j (λ l. Some l.constant) (λ l F. F.constant)
+
+  pub slope_value : (j k : ℕ) → Value (or_zero (slope_of p j k))
+  slope_value j k = number_below j (λ l. at_place l.slopes k) (λ l F. value_at l.slopes F.slopes k)
+
+module _ (p : Meaning) (B : Bounded p) (c : Shape) where
   kept_fits : (j : ℕ) → Fits c (kept_limit p c j)
   kept_fits j = record {
     wide = length_table c.commands _;
     deep = length_table c.readings _;
-    coefficients = record { each = each_of_table Value c.commands _ (λ i h. number_below (j + 1) (λ l. at_place l.coefficients (i + 1)) (λ l F. value_at l.coefficients F.coefficients (i + 1))) };
-    constant = number_below (j + 1) (λ l. Some l.constant) (λ l F. F.constant);
-    slopes = record { each = each_of_table Value c.readings _ (λ k h. number_below (j + 1) (λ l. at_place l.slopes (k + 1)) (λ l F. value_at l.slopes F.slopes (k + 1))) };
+    coefficients = record { each = each_of_table Value c.commands _ (λ i h. coefficient_value p B (j + 1) (i + 1)) };
+    constant = constant_value p B (j + 1);
+    slopes = record { each = each_of_table Value c.readings _ (λ k h. slope_value p B (j + 1) (k + 1)) };
   }
 
   alone_fits : (i : ℕ) (z : ℤ) → Value z → (constant : ℤ) → Value constant → Fits c (record { coefficients = table c.commands (alone i z); constant = constant; slopes = table c.readings (λ _. pos 0) })
@@ -78,8 +92,8 @@ length_ranged p c lows highs = simp (length-append, length_table) (omega arith)
 
 pub ranged_bounded : (p : Meaning) → Bounded p → (t : RangeTable) → Bounded (ranged_by t p)
 ranged_bounded p B t =
-    let c = t.shape in
-    let f = t.fit in
+    let c = t.counts.shape in
+    let f = t.counts.fit in
     let few = length_ranged p c t.lows t.highs in
     let wide = length_table c.commands (λ i. or_zero (gain_of p (i + 1))) in
     let fits : (j : ℕ) (l : Limit) → slice_get (ranged_by t p).limits j ≡ Some l → Fits c l = each_of_both (Fits c) (table c.limits (kept_limit p c)) (range_limits c t.lows t.highs)
@@ -88,7 +102,7 @@ ranged_bounded p B t =
     (each_of_table (Fits c) c.commands _ (λ i h. alone_fits p B c i (pos 1) one_is_value _ (t.high_values i (omega (arith, f.1)))))
     (each_of_table (Fits c) c.commands _ (λ i h. alone_fits p B c i (negsuc 0) minus_one_is_value _ (negated _ (t.low_values i (omega (arith, f.1))))))) in
     record {
-      counted = rw wide (f.0, f.1, omega (arith, few, f.2), omega (arith, few, f.3), f.4);
-      gains = record { each = each_of_table Value c.commands _ (λ i h. value_at p.gains B.gains (i + 1)) };
+      counted = rw wide (f.0, f.1, omega (arith, few, f.2), omega (arith, few, t.room), f.4);
+      gains = record { each = each_of_table Value c.commands _ (λ i h. gain_value p B (i + 1)) };
       limits = λ j l e. let F = fits j l e in record { wide = F.wide ∙ sym wide; deep = F.deep; coefficients = F.coefficients; constant = F.constant; slopes = F.slopes };
     }

@@ -1,6 +1,6 @@
 -- The meaning of a written-out plant, whatever words it is made of: a number that the words lack or that is out of bounds is 0.
-use Rattle.std.specs.Prelude.{ℕ, ◌+◌, cond, List, ℤ, pos, nat_le, slice_index, unsigned_abs}
-use Rattle.words.specs.Bounds.{largest_value}
+use Rattle.std.specs.Prelude.{ℕ, ◌+◌, cond, List, ℤ, pos, slice_index}
+use Rattle.words.specs.Bounds.{in_bounds}
 use Rattle.words.specs.Words.{payload}
 use Rattle.words.specs.Layout.{limit_place}
 use Rattle.words.specs.declared.counts.Shape.{Shape}
@@ -8,7 +8,7 @@ use Rattle.plant.specs.Tables.{table}
 use Rattle.plant.specs.Meaning.{Limit, Meaning}
 
 abbrev pub in_bounds_or_zero : ℤ → ℤ
-in_bounds_or_zero z = cond (nat_le (unsigned_abs z) largest_value) z (pos 0)
+in_bounds_or_zero z = cond (in_bounds z) z (pos 0)
 
 module _ (ws : List ℕ) where
   -- The number at place k.

@@ -10,9 +10,7 @@ pub fn load(words: &[u32]) -> Result<Counts, Refusal>
     ensures { Loaded words.now result }
 {
     let mut reader = Reader::new(words);
-    while let Some(_part) = reader.next()? {}
-    match reader.counts() {
-        Some(counts) => Ok(counts),
-        None => unreachable(),
-    }
+    // `next` is what customers call, with its own promise on refusals; an iterator of results would be a second way to ask.
+    while reader.next()?.is_some() {}
+    Ok(reader.counts().unwrap())
 }

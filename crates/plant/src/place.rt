@@ -5,8 +5,5 @@ ghost use Rattle.plant.specs.Tables.{Found};
 pub(crate) fn from_zero(place: usize, count: usize) -> Option<usize>
     ensures { Found count place result }
 {
-    if place == 0 || place > count {
-        return None;
-    }
-    Some(place - 1)
+    place.checked_sub(1).filter(|place| *place < count)
 }

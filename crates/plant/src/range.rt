@@ -1,27 +1,20 @@
 // Lows and highs are judged before they lie over a plant.
 ghost use Rattle.std.specs.Prelude.{◌≡◌, ℕ, ◌<◌, ◌≤◌, length, pos, MatchOption, MatchResult, slice_index_or};
 ghost use Rattle.words.specs.Bounds.{most_commands};
-ghost use Rattle.words.specs.Layout.{InBounds};
 ghost use Rattle.plant.specs.Ranges.{ValuesBefore, FirstNotValue, InOrder, RangesFit, RangeFaulty};
 ghost use Rattle.plant.specs.Ranged.{RangeAnswer, Tabled};
 
 use crate::interface::Plant;
 use crate::range_table::RangeTable;
-use words::bounds::{LARGEST_VALUE, MOST_COMMANDS, MOST_LIMITS};
-use words::counts::Shape;
+use words::bounds::{MOST_COMMANDS, MOST_LIMITS, is_value};
+use words::counts::Counts;
 use words::refusal::Refusal;
 
 // The place of the first number out of bounds.
 fn first_not_value(numbers: &[i32]) -> Option<usize>
     ensures { MatchOption result (ValuesBefore numbers.now (length numbers.now)) (FirstNotValue numbers.now) }
 {
-    for k in 0..numbers.len() {
-        let number = numbers[k];
-        if number < -LARGEST_VALUE || number > LARGEST_VALUE {
-            return Some(k);
-        }
-    }
-    None
+    numbers.iter().position(|number| !is_value(*number))
 }
 
 // The first command whose low is above its high.
@@ -29,15 +22,12 @@ fn first_crossed(lows: &[i32], highs: &[i32]) -> Option<usize>
     requires { length highs.now ≡ length lows.now }
     ensures { MatchOption result ((i : ℕ) → i < length lows.now → InOrder lows.now highs.now i) (λ k. (k < length lows.now) × (InOrder lows.now highs.now k → ⊥) × ((i : ℕ) → i < k → InOrder lows.now highs.now i)) }
 {
-    for k in 0..lows.len() {
-        if lows[k] > highs[k] {
-            return Some(k);
-        }
-    }
-    None
+    lows.iter()
+        .zip(highs.iter())
+        .position(|(low, high)| low > high)
 }
 
-// The numbers, with zeros after them.
+// The numbers, with zeros after them. The library has no heap, so they are copied into an array of fixed room.
 fn padded(numbers: &[i32]) -> [i32; MOST_COMMANDS]
     requires few { length numbers.now ≤ most_commands }
     requires values { ValuesBefore numbers.now (length numbers.now) }
@@ -45,16 +35,13 @@ fn padded(numbers: &[i32]) -> [i32; MOST_COMMANDS]
     ensures values { ValuesBefore result most_commands }
 {
     let mut all = [0; MOST_COMMANDS];
-    for k in 0..numbers.len() {
-        all[k] = numbers[k];
-    }
+    all[..numbers.len()].copy_from_slice(numbers);
     all
 }
 
 // Judges lows and highs for a plant with these counts.
-fn judge(shape: Shape, lows: &[i32], highs: &[i32]) -> Result<RangeTable, Refusal>
-    requires { InBounds shape }
-    ensures { MatchResult result (Tabled shape lows.now highs.now) (RangeFaulty lows.now highs.now shape) }
+fn judge(counts: Counts, lows: &[i32], highs: &[i32]) -> Result<RangeTable, Refusal>
+    ensures { MatchResult result (Tabled counts.shape lows.now highs.now) (RangeFaulty lows.now highs.now counts.shape) }
 {
     if let Some(k) = first_not_value(lows) {
         return Err(Refusal::Value(k + 1));
@@ -62,6 +49,7 @@ fn judge(shape: Shape, lows: &[i32], highs: &[i32]) -> Result<RangeTable, Refusa
     if let Some(k) = first_not_value(highs) {
         return Err(Refusal::Value(k + 1));
     }
+    let shape = counts.shape();
     let commands = shape.commands;
     if lows.len() != commands
         || highs.len() != commands
@@ -73,7 +61,7 @@ fn judge(shape: Shape, lows: &[i32], highs: &[i32]) -> Result<RangeTable, Refusa
         return Err(Refusal::Range(k + 1));
     }
     Ok(RangeTable {
-        shape,
+        counts,
         lows: padded(lows),
         highs: padded(highs),
     })
@@ -83,10 +71,5 @@ fn judge(shape: Shape, lows: &[i32], highs: &[i32]) -> Result<RangeTable, Refusa
 pub fn range<P: Plant>(below: &P, lows: &[i32], highs: &[i32]) -> Result<RangeTable, Refusal>
     ensures { RangeAnswer (P.Plant.meaning below.now) lows.now highs.now result }
 {
-    let shape = Shape {
-        commands: below.commands(),
-        limits: below.limits(),
-        readings: below.readings(),
-    };
-    judge(shape, lows, highs)
+    judge(below.counts(), lows, highs)
 }

@@ -9,14 +9,15 @@ use crate::range_table::RangeTable;
 use crate::ranged::Ranged;
 use crate::row::Row;
 
+// Its own constant: in an impl with a type parameter a proof knows nothing of `Self::KIND`.
 const RANGED_KIND: u16 = 7;
 
 impl RangeTable {
     // Which limit stands at a place from 1.
     fn row(&self, j: usize) -> Option<Row>
-        ensures { RowAt self.now.shape j result }
+        ensures { RowAt self.now.counts.shape j result }
     {
-        let shape = self.shape;
+        let shape = self.counts.shape();
         let place = from_zero(j, shape.limits + 2 * shape.commands)?;
         if place < shape.limits {
             return Some(Row::Kept);
@@ -39,35 +40,36 @@ impl<P: Plant> Plant for Ranged<P> {
 
     ghost meaning = { λ r. ranged_by r.table (P.Plant.meaning r.below) };
 
-    ghost bounded = { λ r. ranged_bounded (P.Plant.meaning r.below) (P.Plant.bounded r.below) r.table };
+    ghost bounded = { λ r. ranged_bounded (P.Plant.meaning r.below) (P.bounded r.below) r.table };
 
     fn kind_number() -> u16 {
         RANGED_KIND
     }
 
     fn commands(&self) -> usize {
-        self.table.shape.commands
+        self.table.counts.shape().commands
     }
 
     fn limits(&self) -> usize {
-        self.table.shape.limits + 2 * self.table.shape.commands
+        let shape = self.table.counts.shape();
+        shape.limits + 2 * shape.commands
     }
 
     fn readings(&self) -> usize {
-        self.table.shape.readings
+        self.table.counts.shape().readings
     }
 
     fn gain(&self, i: usize) -> Option<i32> {
-        from_zero(i, self.table.shape.commands)?;
+        from_zero(i, self.table.counts.shape().commands)?;
         Some(self.below.gain(i).unwrap_or(0))
     }
 
     fn coefficient(&self, j: usize, i: usize) -> Option<i32> {
-        let command = from_zero(i, self.table.shape.commands)?;
+        let command = from_zero(i, self.table.counts.shape().commands)?;
         match self.table.row(j)? {
             Row::Kept => Some(self.below.coefficient(j, i).unwrap_or(0)),
-            Row::AtMost(held) => Some(if command == held { 1 } else { 0 }),
-            Row::AtLeast(held) => Some(if command == held { -1 } else { 0 }),
+            Row::AtMost(held) => Some(i32::from(command == held)),
+            Row::AtLeast(held) => Some(-i32::from(command == held)),
         }
     }
 
@@ -80,7 +82,7 @@ impl<P: Plant> Plant for Ranged<P> {
     }
 
     fn slope(&self, j: usize, k: usize) -> Option<i32> {
-        from_zero(k, self.table.shape.readings)?;
+        from_zero(k, self.table.counts.shape().readings)?;
         match self.table.row(j)? {
             Row::Kept => Some(self.below.slope(j, k).unwrap_or(0)),
             Row::AtMost(_) | Row::AtLeast(_) => Some(0),

@@ -7,7 +7,7 @@ ghost use Rattle.plant.specs.WrittenBounds.{written_kind, written_bounded};
 use crate::interface::Plant;
 use crate::place::from_zero;
 use crate::written::Written;
-use words::bounds::LARGEST_VALUE;
+use words::bounds::is_value;
 use words::payload::payload;
 
 impl Written<'_> {
@@ -15,15 +15,11 @@ impl Written<'_> {
     fn number(&self, place: usize) -> i32
         ensures { result ≡ number_at self.now.words.now place }
     {
-        if place >= self.words.len() {
+        let Some(&word) = self.words.get(place) else {
             return 0;
-        }
-        let number = payload(self.words[place]);
-        if -LARGEST_VALUE <= number && number <= LARGEST_VALUE {
-            number
-        } else {
-            0
-        }
+        };
+        let number = payload(word);
+        if is_value(number) { number } else { 0 }
     }
 
     // The number in a column of a limit, both from 0.
@@ -38,7 +34,7 @@ impl Written<'_> {
     }
 }
 
-impl<'a> Plant for Written<'a> {
+impl Plant for Written<'_> {
     const KIND: u16 = 1;
 
     ghost kind = { 1 };

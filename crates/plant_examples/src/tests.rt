@@ -7,7 +7,7 @@ use plant::ranged::Ranged;
 use plant::written::Written;
 use std::process::Abort;
 use std::test::Fail;
-use words::kind::COEFFICIENT;
+use words::kind::Kind;
 use words::part::Part;
 use words::payload::{kind_number, payload, word_of};
 use words::reader::Reader;
@@ -15,19 +15,24 @@ use words::refusal::{Refusal, Shown};
 
 // The number, the layer and the place of a refusal.
 fn told(refusal: Refusal) -> (u32, u32, usize) {
-    (refusal.number(), refusal.layer().level(), refusal.place())
+    (
+        refusal.number(),
+        u32::from(refusal.layer()),
+        refusal.place(),
+    )
 }
 
 #[test]
 fn payloads_at_both_ends(rt: HostRuntime) {
+    let coefficient = u32::from(Kind::Coefficient);
     assert_eq!(rt; payload(0x37FFFFFF), 134_217_727);
     assert_eq!(rt; payload(0x38000000), -134_217_728);
     assert_eq!(rt; payload(0x3FFFFFFF), -1);
-    assert_eq!(rt; kind_number(0x3FFFFFFF), COEFFICIENT);
-    assert_eq!(rt; word_of(COEFFICIENT, -1), Some(0x3FFFFFFF));
-    assert_eq!(rt; word_of(COEFFICIENT, 134_217_727), Some(0x37FFFFFF));
-    assert_eq!(rt; word_of(COEFFICIENT, -134_217_728), Some(0x38000000));
-    assert_eq!(rt; word_of(COEFFICIENT, 134_217_728), None);
+    assert_eq!(rt; kind_number(0x3FFFFFFF), coefficient);
+    assert_eq!(rt; word_of(coefficient, -1), Some(0x3FFFFFFF));
+    assert_eq!(rt; word_of(coefficient, 134_217_727), Some(0x37FFFFFF));
+    assert_eq!(rt; word_of(coefficient, -134_217_728), Some(0x38000000));
+    assert_eq!(rt; word_of(coefficient, 134_217_728), None);
     assert_eq!(rt; word_of(16, 0), None);
 }
 
@@ -52,10 +57,8 @@ fn parts_of_the_smallest_plant(rt: HostRuntime) -> Result<(), Fail> {
         (0x60000004, 4),
     ];
     for want in expected {
-        match reader.next() {
-            Ok(Some(part)) => assert_eq!(rt; first_of(part), want),
-            _ => return Err(Fail::new("a part is due")),
-        }
+        let part = reader.next()?.ok_or("a part is due")?;
+        assert_eq!(rt; first_of(part), want);
     }
     assert!(rt; matches!(reader.next(), Ok(None)));
     Ok(())
@@ -67,20 +70,14 @@ fn a_refused_reader_stays(rt: HostRuntime) -> Result<(), Fail> {
     let mut reader = Reader::new(&words);
     assert!(rt; reader.next().is_ok());
     for _ in 0..2 {
-        match reader.next() {
-            Err(refusal) => assert_eq!(rt; refusal, Refusal::WrongKind(1)),
-            Ok(_) => return Err(Fail::new("the second word is of a wrong kind")),
-        }
+        assert_eq!(rt; reader.next().err(), Some(Refusal::WrongKind(1)));
     }
     Ok(())
 }
 
 #[test]
 fn plant_k_answers(rt: HostRuntime) -> Result<(), Fail> {
-    let Ok(counts) = load(&WORDS) else {
-        return Err(Fail::new("K is a plant"));
-    };
-    let k = Written::new(&WORDS, counts);
+    let k = Written::new(&WORDS, load(&WORDS)?);
     assert_eq!(rt; (k.commands(), k.limits(), k.readings()), (2, 5, 1));
     assert_eq!(rt;
         (k.gain(0), k.gain(1), k.gain(2), k.gain(3)),
@@ -114,18 +111,12 @@ fn damaged(rt: &impl Abort, place: usize, word: u32) -> Result<Refusal, Fail> {
     let mut words = WORDS;
     assert!(rt; place < words.len());
     words[place] = word;
-    match load(&words) {
-        Err(refusal) => Ok(refusal),
-        Ok(_) => Err(Fail::new("damaged words were accepted")),
-    }
+    Ok(load(&words).err().ok_or("damaged words were accepted")?)
 }
 
 #[test]
 fn damaged_words_of_k(rt: HostRuntime) -> Result<(), Fail> {
-    match load(&WORDS[0..23]) {
-        Err(refusal) => assert_eq!(rt; told(refusal), (1, 1, 23)),
-        Ok(_) => return Err(Fail::new("the close is missing")),
-    }
+    assert_eq!(rt; load(&WORDS[0..23]).err().map(told), Some((1, 1, 23)));
     assert_eq!(rt; told(damaged(&rt, 3, 0x40000003)?), (2, 1, 3));
     assert_eq!(rt; told(damaged(&rt, 0, 0x10010505)?), (3, 1, 0));
     assert_eq!(rt; told(damaged(&rt, 5, 0x40002711)?), (4, 1, 5));
@@ -135,13 +126,8 @@ fn damaged_words_of_k(rt: HostRuntime) -> Result<(), Fail> {
 
 #[test]
 fn a_range_over_a_range(rt: HostRuntime) -> Result<(), Fail> {
-    let Ok(counts) = load(&WORDS) else {
-        return Err(Fail::new("K is a plant"));
-    };
-    let k = Written::new(&WORDS, counts);
-    let Ok(table) = range(&k, &[1, 0], &[5, 2]) else {
-        return Err(Fail::new("the first range fits"));
-    };
+    let k = Written::new(&WORDS, load(&WORDS)?);
+    let table = range(&k, &[1, 0], &[5, 2])?;
     let once = Ranged::new(k, table);
     assert_eq!(rt;
         (once.commands(), once.limits(), once.readings()),
@@ -167,9 +153,7 @@ fn a_range_over_a_range(rt: HostRuntime) -> Result<(), Fail> {
         (once.slope(6, 1), once.slope(1, 1), once.constant(10)),
         (Some(0), Some(1), None)
     );
-    let Ok(table) = range(&once, &[-3, -4], &[9, 10_000]) else {
-        return Err(Fail::new("the second range fits"));
-    };
+    let table = range(&once, &[-3, -4], &[9, 10_000])?;
     let twice = Ranged::new(once, table);
     assert_eq!(rt;
         (twice.limits(), twice.constant(6), twice.constant(10)),
@@ -179,21 +163,18 @@ fn a_range_over_a_range(rt: HostRuntime) -> Result<(), Fail> {
         (twice.constant(11), twice.constant(12), twice.constant(13)),
         (Some(10_000), Some(3), Some(4))
     );
-    match range(&twice, &[0, 0], &[0, 0]) {
-        Err(refusal) => {
-            assert_eq!(rt; told(refusal), (6, 2, 0));
-            Ok(())
-        },
-        Ok(_) => Err(Fail::new("17 limits are too many")),
-    }
+    let refusal = range(&twice, &[0, 0], &[0, 0]).err();
+    assert_eq!(rt;
+        refusal.map(told),
+        Some((6, 2, 0)),
+        "17 limits are too many"
+    );
+    Ok(())
 }
 
 #[test]
 fn ranges_are_judged_in_order(rt: HostRuntime) -> Result<(), Fail> {
-    let Ok(counts) = load(&WORDS) else {
-        return Err(Fail::new("K is a plant"));
-    };
-    let k = Written::new(&WORDS, counts);
+    let k = Written::new(&WORDS, load(&WORDS)?);
     let cases: [(&[i32], &[i32], (u32, u32, usize)); 5] = [
         (&[0, 10_001], &[10_001], (4, 1, 2)),
         (&[9, 0, 0], &[0, -10_001], (4, 1, 2)),
@@ -202,10 +183,7 @@ fn ranges_are_judged_in_order(rt: HostRuntime) -> Result<(), Fail> {
         (&[-10_000, 1], &[10_000, 0], (6, 2, 2)),
     ];
     for (lows, highs, want) in cases {
-        match range(&k, lows, highs) {
-            Err(refusal) => assert_eq!(rt; told(refusal), want),
-            Ok(_) => return Err(Fail::new("a wrong range was accepted")),
-        }
+        assert_eq!(rt; range(&k, lows, highs).err().map(told), Some(want));
     }
     assert!(rt; range(&k, &[-10_000, 3], &[10_000, 3]).is_ok());
     Ok(())

@@ -1,6 +1,6 @@
 pub mod Answered
+pub mod Asked
 pub mod Copied
-pub mod Filling
 pub mod Lookups
 pub mod Widened
 pub mod Zeros

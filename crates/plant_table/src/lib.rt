@@ -2,7 +2,6 @@
 #![tactic(auto)]
 
 mod numbers;
-mod questions;
 pub mod table;
 mod taken;
 #[cfg(test)]

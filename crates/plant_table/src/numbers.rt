@@ -8,33 +8,42 @@ ghost use Rattle.plant.specs.Commands.{column};
 ghost use Rattle.tableau.specs.Plants.{commands, limits, rate};
 ghost use Rattle.plant_table.specs.Tabled.{meaning_of, blank};
 
-use crate::table::{MOST_COEFFICIENTS, MOST_SLOPES, Table};
+use crate::table::Table;
 use words::bounds::{MOST_COMMANDS, MOST_LIMITS, MOST_READINGS};
-use words::counts::Shape;
+use words::counts::{Counts, Shape};
 
 impl Table {
     // A table for a map that no plant was given to yet.
     pub fn blank() -> Table
         ensures { meaning_of result ≡ blank }
     {
+        let smallest = Shape {
+            commands: 1,
+            limits: 1,
+            readings: 0,
+        };
         Table {
-            shape: Shape {
-                commands: 1,
-                limits: 1,
-                readings: 0,
-            },
+            counts: Counts::new(smallest).unwrap(),
             gains: [0; MOST_COMMANDS],
-            coefficients: [0; MOST_COEFFICIENTS],
+            coefficients: [[0; MOST_COMMANDS]; MOST_LIMITS],
             constants: [0; MOST_LIMITS],
-            slopes: [0; MOST_SLOPES],
+            slopes: [[0; MOST_READINGS]; MOST_LIMITS],
         }
     }
 
+    pub fn counts(&self) -> Counts
+        ensures { result.shape ≡ shape_of (meaning_of self.now) }
+    {
+        self.counts
+    }
+
+    // The numbers of the counts, for those who only want these.
     pub fn shape(&self) -> Shape
         ensures counts { result ≡ shape_of (meaning_of self.now) }
         ensures bounds { InBounds result }
     {
-        self.shape
+        let counts = self.counts;
+        counts.shape()
     }
 
     pub fn gain(&self, command: usize) -> i64
@@ -51,7 +60,7 @@ impl Table {
         ensures number { result ≡ column (meaning_of self.now) limit command }
         ensures value { Value result }
     {
-        i64::from(self.coefficients[limit * MOST_COMMANDS + command])
+        i64::from(self.coefficients[limit][command])
     }
 
     // The constant of a limit for k = 0, and its slope for reading k, which counts from 1.
@@ -64,7 +73,7 @@ impl Table {
         if k == 0 {
             i64::from(self.constants[limit])
         } else {
-            i64::from(self.slopes[limit * MOST_READINGS + (k - 1)])
+            i64::from(self.slopes[limit][k - 1])
         }
     }
 }

@@ -1,64 +1,76 @@
 // A table from a plant of any sort, by its questions.
-ghost use Rattle.std.specs.Prelude.{◌≡◌, suc};
+ghost use Rattle.std.specs.Prelude.{◌≡◌, ℕ, ◌+◌, ◌<◌};
 ghost use Rattle.exact.specs.Vectors.{entries};
-ghost use Rattle.words.specs.Bounds.{most_commands, most_readings};
-ghost use Rattle.plant.specs.Commands.{column};
-ghost use Rattle.tableau.specs.Plants.{commands, limits, rate};
-ghost use Rattle.plant_table.specs.Places.{AllValues, Holds, RowsHold};
+ghost use Rattle.words.specs.Bounds.{most_commands, most_limits, most_readings};
+ghost use Rattle.plant.specs.Meaning.{gain_of, coefficient_of, constant_of, slope_of};
+ghost use Rattle.plant.specs.Ranged.{or_zero};
+ghost use Rattle.plant_table.specs.Places.{row, AllRowsValues, Numbers};
 ghost use Rattle.plant_table.specs.Tabled.{meaning_of};
 
-use crate::questions::{coefficient, constant, gain, slope};
-use crate::table::{MOST_COEFFICIENTS, MOST_SLOPES, Table};
+use crate::table::Table;
 use plant::interface::Plant;
+use std::array::from_fn;
 use words::bounds::{MOST_COMMANDS, MOST_LIMITS, MOST_READINGS};
-use words::counts::Shape;
 
+// The answers to a question at 1, 2 and on, in order, and 0 where there is none.
+fn numbers<const N: usize, F: Fn(usize) -> Option<i32>>(ask: F) -> [i32; N]
+    requires { F.IsAlwaysCallable ask }
+    ensures { (i : ℕ) → i < N → (o : _) × F.post ask (i + 1) o × (entries result i ≡ or_zero o) }
+{
+    from_fn(|place| ask(place + 1).unwrap_or(0))
+}
+
+// The gain of each command, and 0 past the last.
 fn gains_of<P: Plant>(plant: &P) -> [i32; MOST_COMMANDS]
-    ensures numbers { Holds (commands (P.Plant.meaning plant.now)) (entries (P.Plant.meaning plant.now).gains) result }
-    ensures values { AllValues result }
+    ensures { Numbers most_commands (λ i. or_zero (gain_of (P.Plant.meaning plant.now) (i + 1))) result }
 {
-    let mut gains = [0; MOST_COMMANDS];
-    for command in 0..plant.commands() {
-        gains[command] = gain(plant, command);
-    }
-    gains
+    numbers(|command| plant.gain(command))
 }
 
-fn coefficients_of<P: Plant>(plant: &P) -> [i32; MOST_COEFFICIENTS]
-    ensures numbers { RowsHold most_commands (limits (P.Plant.meaning plant.now)) (commands (P.Plant.meaning plant.now)) (column (P.Plant.meaning plant.now)) result }
-    ensures values { AllValues result }
-{
-    let mut coefficients = [0; MOST_COEFFICIENTS];
-    for limit in 0..plant.limits() {
-        for command in 0..plant.commands() {
-            coefficients[limit * MOST_COMMANDS + command] = coefficient(plant, limit, command);
-        }
-    }
-    coefficients
-}
-
+// The constant of each limit, and 0 past the last.
 fn constants_of<P: Plant>(plant: &P) -> [i32; MOST_LIMITS]
-    ensures numbers { Holds (limits (P.Plant.meaning plant.now)) (rate (P.Plant.meaning plant.now) 0) result }
-    ensures values { AllValues result }
+    ensures { Numbers most_limits (λ j. or_zero (constant_of (P.Plant.meaning plant.now) (j + 1))) result }
 {
-    let mut constants = [0; MOST_LIMITS];
-    for limit in 0..plant.limits() {
-        constants[limit] = constant(plant, limit);
-    }
-    constants
+    numbers(|limit| plant.constant(limit))
 }
 
-fn slopes_of<P: Plant>(plant: &P) -> [i32; MOST_SLOPES]
-    ensures numbers { RowsHold most_readings (limits (P.Plant.meaning plant.now)) (P.Plant.meaning plant.now).readings (λ j k. rate (P.Plant.meaning plant.now) (suc k) j) result }
-    ensures values { AllValues result }
+// The coefficients of a limit, which counts from 1; 0 where there is none.
+fn coefficient_row<P: Plant>(plant: &P, limit: usize) -> [i32; MOST_COMMANDS]
+    ensures { Numbers most_commands (λ i. or_zero (coefficient_of (P.Plant.meaning plant.now) limit (i + 1))) result }
 {
-    let mut slopes = [0; MOST_SLOPES];
-    for limit in 0..plant.limits() {
-        for reading in 0..plant.readings() {
-            slopes[limit * MOST_READINGS + reading] = slope(plant, limit, reading);
-        }
-    }
-    slopes
+    numbers(|command| plant.coefficient(limit, command))
+}
+
+// The slopes of a limit, which counts from 1; 0 where there is none.
+fn slope_row<P: Plant>(plant: &P, limit: usize) -> [i32; MOST_READINGS]
+    ensures { Numbers most_readings (λ k. or_zero (slope_of (P.Plant.meaning plant.now) limit (k + 1))) result }
+{
+    numbers(|reading| plant.slope(limit, reading))
+}
+
+// Like `slopes_of` but for the question: as one function it would take the question and its clauses, and be no plainer.
+fn coefficients_of<P: Plant>(plant: &P) -> [[i32; MOST_COMMANDS]; MOST_LIMITS]
+    ensures rows { (j : ℕ) → j < most_limits → Numbers most_commands (λ i. or_zero (coefficient_of (P.Plant.meaning plant.now) (j + 1) (i + 1))) (row result j) }
+    ensures values { AllRowsValues result }
+{
+    from_fn(
+        |limit: usize| -> [i32; MOST_COMMANDS]
+            requires { limit < most_limits }
+            ensures { Numbers most_commands (λ i. or_zero (coefficient_of (P.Plant.meaning plant.entry.now) (limit + 1) (i + 1))) result }
+        { coefficient_row(plant, limit + 1) },
+    )
+}
+
+fn slopes_of<P: Plant>(plant: &P) -> [[i32; MOST_READINGS]; MOST_LIMITS]
+    ensures rows { (j : ℕ) → j < most_limits → Numbers most_readings (λ k. or_zero (slope_of (P.Plant.meaning plant.now) (j + 1) (k + 1))) (row result j) }
+    ensures values { AllRowsValues result }
+{
+    from_fn(
+        |limit: usize| -> [i32; MOST_READINGS]
+            requires { limit < most_limits }
+            ensures { Numbers most_readings (λ k. or_zero (slope_of (P.Plant.meaning plant.entry.now) (limit + 1) (k + 1))) result }
+        { slope_row(plant, limit + 1) },
+    )
 }
 
 impl Table {
@@ -67,11 +79,7 @@ impl Table {
         ensures { meaning_of result ≡ P.Plant.meaning plant.now }
     {
         Table {
-            shape: Shape {
-                commands: plant.commands(),
-                limits: plant.limits(),
-                readings: plant.readings(),
-            },
+            counts: plant.counts(),
             gains: gains_of(plant),
             coefficients: coefficients_of(plant),
             constants: constants_of(plant),

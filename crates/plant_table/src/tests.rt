@@ -4,6 +4,7 @@ use plant::interface::Plant;
 use plant::load::load;
 use plant::written::Written;
 use std::test::Fail;
+use words::counts::Shape;
 
 const WORDS_OF_K: [u32; 24] = [
     0x10010205, 0x20000001, 0x20000001, 0x30000001, 0x30000000, 0x40000004, 0x50000001, 0x30000000,
@@ -13,12 +14,13 @@ const WORDS_OF_K: [u32; 24] = [
 
 #[test]
 fn numbers_of_plant_k(rt: HostRuntime) -> Result<(), Fail> {
-    let Ok(counts) = load(&WORDS_OF_K) else {
-        return Err(Fail::new("K is a plant"));
+    let table = Table::of(&Written::new(&WORDS_OF_K, load(&WORDS_OF_K)?));
+    let counts = Shape {
+        commands: 2,
+        limits: 5,
+        readings: 1,
     };
-    let table = Table::of(&Written::new(&WORDS_OF_K, counts));
-    let shape = table.shape();
-    if shape.commands != 2 || shape.limits != 5 || shape.readings != 1 {
+    if table.shape() != counts {
         return Err(Fail::new("K has 2 commands, 5 limits and 1 reading"));
     }
     assert_eq!(rt; (table.gain(0), table.gain(1)), (1, 1));

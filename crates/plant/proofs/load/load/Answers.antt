@@ -1,6 +1,7 @@
-use Rattle.std.proofs.Common.{◌≡◌, ℕ, List, sym, ap, ◌∙◌, subst}
+use Rattle.std.proofs.Common.{◌≡◌, ℕ, List, Some, sym, ap, ◌∙◌, subst}
 use Rattle.std.proofs.lemmas.Result.{err_from_is_err_and}
 use Rattle.words.specs.Faults.{Faulty, LaidOut, shape_of}
+use Rattle.words.specs.Parts.{ReadWhole}
 use Rattle.words.specs.declared.counts.Shape.{Shape}
 use Rattle.words.specs.declared.refusal.Refusal.{Refusal}
 use Rattle.words.proofs.Verdicts.{not_laid_out}
@@ -20,12 +21,13 @@ refused ws vs e s f =
 accepted : (ws vs : List ℕ) (c : Shape) → vs ≡ ws → LaidOut vs → c ≡ shape_of vs → Describes ws (said ws c)
 accepted ws vs c s l e = subst (λ x. Describes ws (said ws x)) (sym (e ∙ ap shape_of s)) (describes ws (subst LaidOut s l))
 
-pub returns-in_err-_part : goal.returns-in_err-_part
-returns-in_err-_part c =
+pub returns-in_err-next : goal.returns-in_err-next
+returns-in_err-next c =
     let p = err_from_is_err_and c.from_residual.result c.from_residual.ensures.1 in
-    rw (p.1, p.2) (refused c.args.words.now c.loop-part.reader.words.now c.in_err-_part.field-0.0 c.loop-part.invariant c.in_err-_part.ensures.handed.0)
+    rw (p.1, p.2) (refused c.args.words.now c.loop.reader.words.now c.in_err-next.field-0.0 c.loop.invariant c.in_err-next.ensures.handed.0)
 
 pub returns : goal.returns
 returns c =
-    let whole = c.in-Some-counts.ensures in
-    accepted c.args.words.now c.next.new.self.words.now c.in-Some-counts.counts.shape (c.next.ensures.words ∙ c.loop-part.invariant) whole.0 whole.2
+    let ws = c.next.new.self.words.now in
+    let whole : ReadWhole ws c.next.new.self.at (Some c.unwrap.result) = subst (ReadWhole ws c.next.new.self.at) c.unwrap.ensures c.counts.ensures in
+    accepted c.args.words.now ws c.unwrap.result.shape (c.next.ensures.words ∙ c.loop.invariant) whole.0 whole.2

@@ -1,10 +1,20 @@
-use Rattle.std.proofs.Common.{arith}
-use Rattle.plant_table.specs.Places.{constant_room}
-use Rattle.plant_table.proofs.Filling.{passed, write}
+use Rattle.std.proofs.Common.{◌≡◌, ℕ, ◌+◌, ◌<◌, ℤ, rules, ap, ◌∙◌}
+use Rattle.exact.specs.Vectors.{entries}
+use Rattle.words.specs.Bounds.{most_limits}
+use Rattle.plant.specs.Meaning.{constant_of}
+use Rattle.plant.specs.Ranged.{or_zero}
+use Rattle.plant.specs.RangedBounds.{constant_value}
+use Rattle.plant_table.proofs.Asked.{all_values}
 use Rattle.plant_table.proofs.taken.constants_of.Goals as goal
 
-pub loop-limit-preserved : goal.loop-limit-preserved
-loop-limit-preserved g c =
-    let v = c.constant.result in
-    let counted = (g.P.Plant.bounded c.args.plant.now).counted in
-    rw (passed v c.constant.ensures.value) (write constant_room _ c.loop-limit.limit c.loop-limit.constants v (omega (arith, counted.3)) c.constant.ensures.number c.constant.ensures.value c.loop-limit.invariant)
+pub returns : goal.returns
+returns g c =
+    let p = g.P.Plant.meaning c.args.plant.now in
+    let same : (i : ℕ) → i < most_limits → entries c.numbers.result i ≡ or_zero (constant_of p (i + 1)) = λ i h.
+    let (o, posted, e) = c.numbers.ensures i h in
+    let answer : o ≡ constant_of p (i + 1) = search rules in
+    e ∙ ap or_zero answer in
+    record {
+      same = same;
+      values = all_values most_limits (λ i. or_zero (constant_of p (i + 1))) c.numbers.result (search rules) same (λ i. constant_value p (g.met.P.Plant.bounded c.args.plant.now) (i + 1));
+    }

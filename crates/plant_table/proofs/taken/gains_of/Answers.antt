@@ -1,10 +1,20 @@
-use Rattle.std.proofs.Common.{arith}
-use Rattle.plant_table.specs.Places.{gain_room}
-use Rattle.plant_table.proofs.Filling.{passed, write}
+use Rattle.std.proofs.Common.{◌≡◌, ℕ, ◌+◌, ◌<◌, ℤ, rules, ap, ◌∙◌}
+use Rattle.exact.specs.Vectors.{entries}
+use Rattle.words.specs.Bounds.{most_commands}
+use Rattle.plant.specs.Meaning.{gain_of}
+use Rattle.plant.specs.Ranged.{or_zero}
+use Rattle.plant.specs.RangedBounds.{gain_value}
+use Rattle.plant_table.proofs.Asked.{all_values}
 use Rattle.plant_table.proofs.taken.gains_of.Goals as goal
 
-pub loop-command-preserved : goal.loop-command-preserved
-loop-command-preserved g c =
-    let v = c.gain.result in
-    let counted = (g.P.Plant.bounded c.args.plant.now).counted in
-    rw (passed v c.gain.ensures.value) (write gain_room _ c.loop-command.command c.loop-command.gains v (omega (arith, counted.1)) c.gain.ensures.number c.gain.ensures.value c.loop-command.invariant)
+pub returns : goal.returns
+returns g c =
+    let p = g.P.Plant.meaning c.args.plant.now in
+    let same : (i : ℕ) → i < most_commands → entries c.numbers.result i ≡ or_zero (gain_of p (i + 1)) = λ i h.
+    let (o, posted, e) = c.numbers.ensures i h in
+    let answer : o ≡ gain_of p (i + 1) = search rules in
+    e ∙ ap or_zero answer in
+    record {
+      same = same;
+      values = all_values most_commands (λ i. or_zero (gain_of p (i + 1))) c.numbers.result (search rules) same (λ i. gain_value p (g.met.P.Plant.bounded c.args.plant.now) (i + 1));
+    }

@@ -1,20 +1,14 @@
-use Rattle.std.proofs.Common.{suc, arith}
-use Rattle.words.specs.Bounds.{most_readings}
-use Rattle.tableau.specs.Plants.{rate}
-use Rattle.plant_table.specs.Places.{slope_room}
-use Rattle.plant_table.proofs.Filling.{passed, no_row_yet, write_in_row, next_row}
+use Rattle.std.proofs.Common.{ℕ, ◌+◌, List, [], ℤ, rules}
+use Rattle.words.specs.Bounds.{most_readings, most_limits}
+use Rattle.plant.specs.Meaning.{slope_of}
+use Rattle.plant.specs.Ranged.{or_zero}
+use Rattle.plant_table.specs.Places.{Numbers}
+use Rattle.plant_table.proofs.Asked.{each, all_rows}
 use Rattle.plant_table.proofs.taken.slopes_of.Goals as goal
 
-pub loop-limit-init : goal.loop-limit-init
-loop-limit-init g c =
+pub returns : goal.returns
+returns g c =
     let p = g.P.Plant.meaning c.args.plant.now in
-    no_row_yet slope_room most_readings p.readings (λ j k. rate p (suc k) j)
-
-pub loop-reading-preserved : goal.loop-reading-preserved
-loop-reading-preserved g c =
-    let v = c.slope.result in
-    let counted = (g.P.Plant.bounded c.args.plant.now).counted in
-    rw (passed v c.slope.ensures.value) (write_in_row slope_room most_readings _ _ c.loop-limit.limit c.loop-reading.reading c.loop-reading.slopes c.loop-reading.invariant v (omega (arith, counted.3, counted.4)) counted.4 c.slope.ensures.number c.slope.ensures.value)
-
-pub loop-limit-preserved : goal.loop-limit-preserved
-loop-limit-preserved g c = next_row _ _ _ _ _ _ _ c.loop-reading.invariant (omega arith)
+    let Row : ℕ → List ℤ → Type 0 = λ j. Numbers most_readings (λ i. or_zero (slope_of p (j + 1) (i + 1))) in
+    let rows = each _ _ Row most_limits [] c.from_fn.result (λ j y q h k. search rules) c.from_fn.ensures.items in
+    record { rows = rows; values = all_rows most_limits c.from_fn.result c.from_fn.ensures.items.long (λ j h. (rows j h).values) }

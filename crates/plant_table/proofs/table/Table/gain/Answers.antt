@@ -1,14 +1,14 @@
 use Rattle.std.proofs.Common.{arith}
 use Rattle.exact.specs.Vectors.{entries}
-use Rattle.plant_table.proofs.Lookups.{kept_gain, gain_inside}
+use Rattle.plant_table.proofs.Lookups.{kept_gain, command_inside}
 use Rattle.plant_table.proofs.Widened.{widened, widened_value}
 use Rattle.plant_table.proofs.table.Table.gain.Goals as goal
 
 pub offset_bounds-self-command : goal.offset_bounds-self-command
-offset_bounds-self-command c = omega (arith, gain_inside c.args.self.now c.args.command c.requires)
+offset_bounds-self-command c = omega (arith, command_inside c.args.self.now c.args.command c.requires)
 
 pub bounds-self-command : goal.bounds-self-command
-bounds-self-command c = omega (arith, gain_inside c.args.self.now c.args.command c.requires)
+bounds-self-command c = omega (arith, command_inside c.args.self.now c.args.command c.requires)
 
 pub returns : goal.returns
 returns c =

@@ -1,7 +1,7 @@
 pub mod Across
 pub mod Answered
 pub mod Rewritten
-pub mod Parts
+pub mod Ratios
 pub mod LeastRatio
 pub mod Checked
 pub mod Worked

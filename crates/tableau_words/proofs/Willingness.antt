@@ -1,5 +1,5 @@
 -- Whether a limit is willing, from its slack and the first limit below it.
-use Rattle.std.proofs.Common.{◌≡◌, ℕ, ◌<◌, Bool, true, false, List, ℤ, pos, ◌<ℤ◌, Some, None, sym, refl, ◌∙◌, subst, ⊎_elim, arith}
+use Rattle.std.proofs.Common.{◌≡◌, ℕ, ◌<◌, Bool, true, false, List, ℤ, pos, ◌<ℤ◌, Some, None, Option, sym, refl, ◌∙◌, subst, ⊎_elim, arith}
 use lib.Signed.{lt_z}
 use Rattle.std.proofs.lemmas.Int.{ints}
 use Rattle.std.proofs.lemmas.Bool.{cases_eq, cases_lt}
@@ -44,12 +44,6 @@ module _ (m : ℕ) (a : ℕ → ℕ → ℤ) (β : ℕ → ℕ) (D : ℤ) (U : �
 
 -- The answers, for words of a shape.
 module _ (c : Shape) (θ : List ℤ) (j : ℕ) (ws : List ℤ) (z : ℤ) (S : SlackAnswer c θ j ws z) where
-  pub negative_answered : z <ℤ pos 0 → WillingAnswer c θ j ws true
-  negative_answered h = λ p a β D U e T H. negative (subst (λ x. x <ℤ pos 0) (S p a β D U e H) h)
-
-  pub positive_answered : pos 0 <ℤ z → WillingAnswer c θ j ws false
-  positive_answered h = λ p a β D U e T H. positive_unwilling (commands p) a β D U T.inverse (slack_of p a β D U θ j) j (subst (λ x. pos 0 <ℤ x) (S p a β D U e H) h)
-
   pub none_below_answered : z ≡ pos 0 → BelowAnswer c j ws None → WillingAnswer c θ j ws false
   none_below_answered h N = λ p a β D U e T H. none_unwilling (commands p) a β D U T.inverse (slack_of p a β D U θ j) j (sym (S p a β D U e H) ∙ h) (N p a β D U e H)
 
@@ -66,3 +60,8 @@ module _ (c : Shape) (θ : List ℤ) (j : ℕ) (ws : List ℤ) (z : ℤ) (S : Sl
 
     pub first_below_answered : WillingAnswer c θ j ws (lt_z (pos 0) t)
     first_below_answered = by_sign (lt_z (pos 0) t) refl
+
+  -- A slack of 0: the sign of the first number decides.
+  pub tied_answered : z ≡ pos 0 → (o : Option ℤ) (b : Bool) → BelowAnswer c j ws o → (o ≡ None → b ≡ false) → ((t : ℤ) → o ≡ Some t → b ≡ lt_z (pos 0) t) → WillingAnswer c θ j ws b
+  tied_answered h (Some t) b F n s = rw (s t refl) (first_below_answered h t F)
+  tied_answered h None b F n s = rw (n refl) (none_below_answered h F)

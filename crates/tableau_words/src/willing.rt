@@ -1,78 +1,59 @@
 // Which limits are willing to enter.
-ghost use Rattle.std.specs.Prelude.{◌≡◌, ◌<◌, length};
-ghost use Rattle.exact.specs.Bounds.{AllInWidth};
-ghost use Rattle.words.specs.Layout.{InBounds};
-ghost use Rattle.tableau_words.specs.Layout.{size};
+ghost use Rattle.std.specs.Prelude.{◌<◌};
 ghost use Rattle.tableau_words.specs.Entering.{BelowAnswer, WillingAnswer, EnteringAnswer};
 
-use crate::slack::slack;
-use words::counts::Shape;
+use crate::reading::TableauAt;
+use crate::view::Tableau;
+use std::cmp::Ordering;
 
-// The number in the column of `limit`, other than 0, of the least limit below it that has one.
-fn first_below(words: &[i64], shape: Shape, limit: usize) -> Option<i64>
-    requires counts { InBounds shape }
-    requires place { limit < shape.limits }
-    requires long { length words.now ≡ size shape }
-    requires widths { AllInWidth words.now }
-    ensures { BelowAnswer shape limit words.now result }
-{
-    let list = 1 + shape.commands;
-    let width = list + shape.limits;
-    let column = list + limit;
-    let rows = &words[list..];
-    let mut first: Option<usize> = None;
-    for row in 0..shape.commands {
-        if words[1 + row] < limit as i64 {
-            if rows[row * width + column] != 0 {
+impl Tableau<'_> {
+    // The number in the column of `limit`, other than 0, of the least limit below it that has one.
+    pub fn first_below(&self, limit: usize) -> Option<i64>
+        requires { limit < self.now.counts.shape.limits }
+        ensures { BelowAnswer self.now.counts.shape limit self.now.words.now result }
+    {
+        let commands = self.counts.shape().commands;
+        let column = 1 + commands + limit;
+        let mut first = None;
+        for row in 0..commands {
+            let below = self.words[1 + row];
+            if below < limit as i64 && self.number(row, column) != 0 {
+                // By a match in a loop: closures for `is_none_or` and `min_by` would need clauses of their own, longer than the match.
                 match first {
-                    Some(least) => {
-                        if words[1 + row] < words[1 + least] {
-                            first = Some(row);
-                        }
-                    }
-                    None => first = Some(row),
+                    Some(least) if self.words[1 + least] <= below => {}
+                    _ => first = Some(row),
                 }
             }
         }
-    }
-    match first {
-        Some(row) => Some(rows[row * width + column]),
-        None => None,
+        Some(self.number(first?, column))
     }
 }
 
-// Whether limit `limit`, from 0, is willing to enter at the readings.
-pub fn willing(words: &[i64], shape: Shape, readings: &[i64], limit: usize) -> bool
-    requires counts { InBounds shape }
-    requires place { limit < shape.limits }
-    requires long { (length words.now ≡ size shape) × (length readings.now ≡ shape.readings) }
-    requires widths { AllInWidth words.now × AllInWidth readings.now }
-    ensures { WillingAnswer shape readings.now limit words.now result }
-{
-    let left = slack(words, shape, readings, limit);
-    if left < 0 {
-        return true;
-    }
-    if left > 0 {
-        return false;
-    }
-    match first_below(words, shape, limit) {
-        Some(number) => number > 0,
-        None => false,
-    }
-}
-
-// The least willing limit, from 0; none when none is willing.
-pub fn least_willing(words: &[i64], shape: Shape, readings: &[i64]) -> Option<usize>
-    requires counts { InBounds shape }
-    requires long { (length words.now ≡ size shape) × (length readings.now ≡ shape.readings) }
-    requires widths { AllInWidth words.now × AllInWidth readings.now }
-    ensures { EnteringAnswer shape readings.now words.now result }
-{
-    for limit in 0..shape.limits {
-        if willing(words, shape, readings, limit) {
-            return Some(limit);
+impl TableauAt<'_> {
+    // Whether limit `limit`, from 0, is willing to enter at the readings.
+    pub fn willing(&self, limit: usize) -> bool
+        requires { limit < self.now.reading.counts.shape.limits }
+        ensures { WillingAnswer self.now.reading.counts.shape self.now.reading.numbers.now limit self.now.words.now result }
+    {
+        match self.slack(limit).cmp(&0) {
+            Ordering::Less => true,
+            Ordering::Equal => self
+                .tableau()
+                .first_below(limit)
+                .is_some_and(|number| number > 0),
+            Ordering::Greater => false,
         }
     }
-    None
+
+    // The least willing limit, from 0; none when none is willing.
+    pub fn least_willing(&self) -> Option<usize>
+        ensures { EnteringAnswer self.now.reading.counts.shape self.now.reading.numbers.now self.now.words.now result }
+    {
+        (0..self.reading.counts.shape().limits).find(
+            |limit: &usize| -> bool
+                requires { limit.now < self.now.reading.counts.shape.limits }
+                ensures { WillingAnswer self.entry.now.reading.counts.shape self.entry.now.reading.numbers.now limit.entry.now self.entry.now.words.now result }
+            { self.willing(*limit) },
+        )
+    }
 }

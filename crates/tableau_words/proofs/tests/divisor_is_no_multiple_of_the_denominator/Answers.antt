@@ -1,13 +1,12 @@
-use Rattle.std.proofs.Common.{refl, arith, rules}
-use Rattle.std.proofs.lemmas.Int.{ints}
+use Rattle.std.proofs.Common.{refl}
 use Rattle.tableau_words.proofs.Worked.{halves}
 use Rattle.tableau_words.proofs.Checked.{greatest_size, checked}
 use Rattle.tableau_words.proofs.tests.divisor_is_no_multiple_of_the_denominator.Goals as goal
 
-pub leaving-requires : goal.leaving-requires
+pub invariant_of-tableau-clause-wide : goal.invariant_of-tableau-clause-wide
 unfolding greatest_size
-leaving-requires g c = record { counts = search rules; place = omega arith; long = refl; widths = checked halves refl }
+invariant_of-tableau-clause-wide g c = checked halves refl
 
-pub exchange-requires : goal.exchange-requires
+pub exchange-requires-clause-widths : goal.exchange-requires-clause-widths
 unfolding greatest_size
-exchange-requires g c = record { counts = search rules; places = search rules; long = refl; widths = checked halves refl; positive = (omega (arith, ints), omega (arith, ints)) }
+exchange-requires-clause-widths g c = checked halves refl

@@ -1,8 +1,7 @@
-use Rattle.std.proofs.Common.{[], ◌∷◌, negsuc, refl, rules}
-use Rattle.tableau_words.proofs.Worked.{one_and_three}
+use Rattle.std.proofs.Common.{[], ◌∷◌, negsuc, refl}
 use Rattle.tableau_words.proofs.Checked.{greatest_size, checked}
 use Rattle.tableau_words.proofs.tests.limit_2_is_least_willing.Goals as goal
 
-pub least_willing-requires : goal.least_willing-requires
+pub one_and_three_at-requires-clause-wide : goal.one_and_three_at-requires-clause-wide
 unfolding greatest_size
-least_willing-requires g c = record { counts = search rules; long = (refl, refl); widths = (checked one_and_three refl, checked (negsuc 1 ∷ []) refl) }
+one_and_three_at-requires-clause-wide g c = checked (negsuc 1 ∷ []) refl

@@ -1,8 +1,7 @@
-use Rattle.std.proofs.Common.{[], ◌∷◌, pos, refl, rules}
-use Rattle.tableau_words.proofs.Worked.{one_and_three}
+use Rattle.std.proofs.Common.{[], ◌∷◌, pos, refl}
 use Rattle.tableau_words.proofs.Checked.{greatest_size, checked}
 use Rattle.tableau_words.proofs.tests.limit_5_is_willing_at_slack_0.Goals as goal
 
-pub least_willing-requires : goal.least_willing-requires
+pub one_and_three_at-requires-clause-wide : goal.one_and_three_at-requires-clause-wide
 unfolding greatest_size
-least_willing-requires g c = record { counts = search rules; long = (refl, refl); widths = (checked one_and_three refl, checked (pos 2 ∷ []) refl) }
+one_and_three_at-requires-clause-wide g c = checked (pos 2 ∷ []) refl

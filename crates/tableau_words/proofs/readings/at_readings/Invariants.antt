@@ -1,9 +1,0 @@
-use Rattle.std.proofs.Common.{◌≡◌, ◌+◌, ◌*◌, ◌≤◌, nat_abs}
-use Rattle.exact.specs.Bounds.{width}
-use Rattle.exact.specs.Vectors.{sum}
-use Rattle.tableau_words.proofs.ReadingSums.{term}
-use Rattle.tableau_words.proofs.readings.at_readings.Given as goal
-
--- The sum so far, and each term adds at most the square of the width.
-abbrev pub invariant-loop-k : goal.invariant-loop-k
-invariant-loop-k l = (l.sum ≡ sum (l.k + 1) (term l.width l.column l.rows l.readings)) × (nat_abs l.sum ≤ (l.k + 1) * (width * width))

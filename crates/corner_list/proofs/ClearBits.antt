@@ -1,7 +1,8 @@
 -- The limits outside a mask, counted one after another, and those outside the mask of a corner.
-use Rattle.std.proofs.Common.{◌≡◌, ℕ, zero, suc, ◌+◌, ◌-◌, ◌*◌, ◌/◌, ◌%◌, ◌^◌, ◌<◌, ◌≤◌, Bool, true, false, cond, eqb, sym, refl, ap, ◌∙◌, ⊎_elim, arith, pow_pos, pow-add}
+use Rattle.std.proofs.Common.{◌≡◌, ℕ, zero, suc, ◌+◌, ◌-◌, ◌*◌, ◌/◌, ◌%◌, ◌^◌, ◌<◌, ◌≤◌, Bool, true, false, cond, eqb, List, ◌∷◌, Some, None, Option, sym, refl, ap, ◌∙◌, ⊎_elim, arith, pow_pos, pow-add}
 use native.Mathlib.Decide.{ℕ_discrete}
 use native.Mathlib.Nat.{pow-succ', add-div_left, mul-add-div, mul-add-mod_self_left, div-eq_of_lt}
+use Rattle.std.specs.List.{range_with_len, filter, slice_get}
 use Rattle.std.proofs.lemmas.Bool.{eq-eqb, ne_eqb, cases_lt}
 use Rattle.plant.specs.Commands.{column}
 use Rattle.plant.specs.Meaning.{Meaning}
@@ -11,7 +12,7 @@ use Rattle.tableau.specs.Runs.{InBasis}
 use Rattle.tableau.proofs.Count.{count, holds_in, holds_out, count_holds}
 use Rattle.tableau.proofs.Masks.{mask_below}
 use Rattle.tableau.proofs.Willing.{injective}
-use Rattle.corner_list.specs.Outside.{bit, clear_bits, Outside}
+use Rattle.corner_list.specs.Outside.{bit, clear_bits, Outside, OutsideAnswer}
 
 pub clear_none : (b : ℕ) → 0 ≡ clear_bits b 0
 unfolding clear_bits
@@ -29,6 +30,38 @@ unfolding clear_bits
 clear_same b j d =
     let next : j + 1 ≡ suc j = omega arith in
     rw (next, ne_eqb (bit b j) 0 d)
+
+module _ (b : ℕ) where
+  -- Of the m limits from limit a, those that are not in the mask.
+  abbrev pub clear_from : ℕ → ℕ → List ℕ
+  clear_from a m = filter (λ j. eqb (bit b j) 0) (range_with_len a m)
+
+  -- The one at a place among them.
+  abbrev pub From : ℕ → ℕ → ℕ → Option ℕ → Type 0
+  From a m number (Some j) = (j < a + m) × (bit b j ≡ 0) × (clear_bits b j ≡ clear_bits b a + number)
+  From a m number None = clear_bits b (a + m) ≤ clear_bits b a + number
+
+  before : (a m k number : ℕ) → clear_bits b (a + 1) + k ≡ clear_bits b a + number → (r : Option ℕ) → From (a + 1) m k r → From a (suc m) number r
+  before a m k number e (Some j) (inside, out, count) = (omega arith, out, omega arith)
+  before a m k number e None most = let next : a + 1 + m ≡ a + suc m = omega arith in omega (arith, rw next at most)
+
+  first : (a m : ℕ) → bit b a ≡ 0 → ((number : ℕ) → From (a + 1) m number (slice_get (clear_from (a + 1) m) number)) → (number : ℕ) → From a (suc m) number (slice_get (a ∷ clear_from (a + 1) m) number)
+  first a m e rest zero = (omega arith, e, omega arith)
+  first a m e rest (suc k) = before a m k (suc k) (omega (arith, clear_more b a e)) _ (rest k)
+
+  from : (a m number : ℕ) → From a m number (slice_get (clear_from a m) number)
+  from a zero number = let same : a + 0 ≡ a = omega arith in rw same (omega arith)
+  from a (suc m) number = elim (ℕ_discrete (bit b a) 0) [
+    | yes e ↦ rw (eq-eqb (bit b a) 0 e) (first a m e (from (a + 1) m) number)
+    | no d ↦ rw (ne_eqb (bit b a) 0 d) (before a m number number (ap (λ x. x + number) (clear_same b a d)) _ (from (a + 1) m number))
+  ]
+
+  pub outside_answered : (n number : ℕ) → OutsideAnswer b n number (slice_get (clear_from 0 n) number)
+  outside_answered n number = by _ (from 0 n number)
+    where
+      by : (r : Option ℕ) → From 0 n number r → OutsideAnswer b n number r
+      by (Some j) (inside, out, count) = (omega arith, out, omega (arith, clear_none b))
+      by None most = let start : 0 + n ≡ n = omega arith in omega (arith, clear_none b, rw start at most)
 
 clear_rises : (b i j : ℕ) → i ≤ j → clear_bits b i ≤ clear_bits b j
 unfolding clear_bits
@@ -87,7 +120,7 @@ clear_count b n (suc j) S l e = rw (e j l) (by (S j) (clear_count b n j S (omega
     by true h = omega arith
     by false h = omega arith
 
--- The mask of a corner: the bit of a limit is 1 exactly when the limit is in the basis.
+-- The mask of a corner: the bit of a limit in the basis is 1,
 module _ (p : Meaning) (X : CornerOf p) (j : ℕ) (l : j < limits p) where
   basis_bit : bit (mask_of p X) j ≡ cond (holds (commands p) X.β j) 1 0
   basis_bit = mask_bit (limits p) (holds (commands p) X.β) j l
@@ -95,23 +128,9 @@ module _ (p : Meaning) (X : CornerOf p) (j : ℕ) (l : j < limits p) where
   pub in_basis_bit : InBasis p X j → bit (mask_of p X) j ≡ 1
   in_basis_bit (r, k, e) = basis_bit ∙ ap (λ t. cond t 1 0) (ap (holds (commands p) X.β) (sym e) ∙ holds_in (commands p) X.β r k)
 
-  pub bit_in_basis : bit (mask_of p X) j ≡ 1 → InBasis p X j
-  bit_in_basis e = by (holds (commands p) X.β j) refl (sym basis_bit ∙ e)
-    where
-      by : (t : Bool) → holds (commands p) X.β j ≡ t → ◌≡◌ {A = ℕ} (cond t 1 0) 1 → InBasis p X j
-      by true h d = holds_out (commands p) X.β j h
-      by false h d = absurd (omega arith)
-
-  -- and 0 exactly when it is not.
+  -- and a limit whose bit is 0 is not.
   pub clear_bit : bit (mask_of p X) j ≡ 0 → ¬ InBasis p X j
   clear_bit e h = omega (arith, in_basis_bit h)
-
-  pub bit_clear : ¬ InBasis p X j → bit (mask_of p X) j ≡ 0
-  bit_clear n = by (holds (commands p) X.β j) refl
-    where
-      by : (t : Bool) → holds (commands p) X.β j ≡ t → bit (mask_of p X) j ≡ 0
-      by true h = absurd (n (holds_out (commands p) X.β j h))
-      by false h = basis_bit ∙ ap (λ t. cond t 1 0) h
 
 -- As many limits are outside the basis as there are more limits than commands.
 pub clear_mask : (p : Meaning) (X : CornerOf p) → clear_bits (mask_of p X) (limits p) ≡ limits p - commands p

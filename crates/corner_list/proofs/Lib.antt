@@ -1,5 +1,4 @@
 pub mod FromWords
 pub mod Listing
 pub mod ClearBits
-mod Sized
 mod Slacks

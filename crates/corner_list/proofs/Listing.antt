@@ -1,17 +1,20 @@
 -- What is known of the records of listed corners.
-use Rattle.std.proofs.Common.{◌≡◌, ℕ, zero, suc, ◌<◌, List, [], ◌∷◌, ◌++◌, length, get_or, ℤ, sym, refl, ◌∙◌, arith}
+use Rattle.std.proofs.Common.{◌≡◌, ℕ, ◌<◌, List, [], ◌∷◌, ◌++◌, length, get_or, ℤ, sym, refl, ◌∙◌, subst, ⊎_elim, arith}
 use std.Logic.{∥∥₁_elim, ∥∥₁_map}
 use denote.Struct.Props.{props}
+use Rattle.std.proofs.lemmas.Bool.{cases_lt}
+use Rattle.std.proofs.lemmas.List.{get_or_append_left, get_or_push, get_or_read, length_push}
 use Rattle.exact.specs.Bounds.{AllInWidth}
 use Rattle.plant.specs.Commands.{column}
 use Rattle.plant.specs.Meaning.{Meaning, shape_of}
 use Rattle.tableau.specs.Masks.{mask_of}
 use Rattle.tableau.specs.Plants.{limits, CornerOf}
 use Rattle.words.specs.Layout.{InBounds}
+use Rattle.tableau_words.specs.Layout.{most_size}
 use Rattle.corner_words.proofs.Masks.{mask_answered}
 use Rattle.corner_words.proofs.Numbers.{holds_widths}
 use Rattle.corner_runs.specs.Answers.{HoldsCorner}
-use Rattle.corner_list.specs.Records.{most_words, CornerWords, tableau_in, Record, corner, AllRecords}
+use Rattle.corner_list.specs.Records.{CornerWords, tableau_in, Record, corner, AllRecords}
 use Rattle.corner_list.specs.Regions.{AllReadable}
 use Rattle.corner_list.specs.declared.corner.Corner.{Corner}
 use Rattle.corner_list.proofs.FromWords.{corner_in, corner_in_holds}
@@ -19,9 +22,6 @@ use Rattle.corner_list.proofs.FromWords.{corner_in, corner_in_holds}
 -- Words that hold some corner hold the corner of their numbers.
 pub corner_from : (p : Meaning) (ws : List ℤ) → CornerWords p ws → (X : CornerOf p) × HoldsCorner p X ws
 corner_from p ws t = (corner_in p ws t, corner_in_holds p ws t)
-
-pub words_of_corner : (p : Meaning) (X : CornerOf p) (ws : List ℤ) → HoldsCorner p X ws → CornerWords p ws
-words_of_corner p X ws H = ∣ (X, H) ∣₁
 
 pub corner_words_in_width : (p : Meaning) (ws : List ℤ) → InBounds (shape_of p) → CornerWords p ws → AllInWidth ws
 corner_words_in_width p ws counts t = holds_widths p (limits p) (column p) (corner_in p ws t) ws counts (omega arith) (corner_in_holds p ws t)
@@ -41,7 +41,7 @@ module _ (p : Meaning) (r : Corner) where
       let (X, H) = corner_from p (tableau_in (shape_of p) r) (record_words R) in
       (X, H, record_mask R X H)
 
-  pub record_of : (X : CornerOf p) → length r.words ≡ most_words → HoldsCorner p X (tableau_in (shape_of p) r) → r.mask ≡ mask_of p X → Record p r
+  pub record_of : (X : CornerOf p) → length r.words ≡ most_size → HoldsCorner p X (tableau_in (shape_of p) r) → r.mask ≡ mask_of p X → Record p r
   record_of X long H e = (long, ∣ (X, H, e) ∣₁)
 
 -- Lists of records.
@@ -49,10 +49,10 @@ pub all_records_none : (p : Meaning) → AllRecords p []
 all_records_none p k l = absurd (omega arith)
 
 pub all_records_push : (p : Meaning) (rs : List Corner) (r : Corner) → AllRecords p rs → Record p r → AllRecords p (rs ++ r ∷ [])
-all_records_push p [] r all R zero l = R
-all_records_push p [] r all R (suc k) l = absurd (omega arith)
-all_records_push p (x ∷ rs) r all R zero l = all zero (omega arith)
-all_records_push p (x ∷ rs) r all R (suc k) l = all_records_push p rs r (λ j h. all (suc j) (omega arith)) R k (omega arith)
+all_records_push p rs r all R k l = ⊎_elim
+    (λ h. subst (Record p) (sym (get_or_append_left rs (r ∷ []) _ k h)) (all k h))
+    (λ n. subst (Record p) (sym (get_or_push rs r _ k (omega (arith, length_push rs r)))) R)
+    (cases_lt k (length rs))
 
 -- What a search for a region asks of the records.
 pub all_records_readable : (p : Meaning) (rs : List Corner) → InBounds (shape_of p) → AllRecords p rs → AllReadable (shape_of p) rs
@@ -60,9 +60,4 @@ all_records_readable p rs counts all k l = ((all k l).0, corner_words_in_width p
 
 -- A record as `List::get` answers it.
 pub record_at : (rs : List Corner) (k : ℕ) (r : Corner) → (k < length rs) × (r ≡ get_or rs k r) → r ≡ corner rs k
-record_at rs k r h = h.1 ∙ any_default rs k h.0
-  where
-    any_default : (rs : List Corner) (k : ℕ) → k < length rs → get_or rs k r ≡ corner rs k
-    any_default [] k l = absurd (omega arith)
-    any_default (x ∷ rs) zero l = refl
-    any_default (x ∷ rs) (suc k) l = any_default rs k (omega arith)
+record_at rs k r h = get_or_read rs k r h.0 h.1 _

@@ -4,15 +4,10 @@ use Rattle.std.specs.Prelude.{◌≡◌, ℕ, ◌<◌, List, [], length, take, �
 use Rattle.plant.specs.Meaning.{Meaning, shape_of}
 use Rattle.tableau.specs.Masks.{mask_of}
 use Rattle.tableau.specs.Plants.{CornerOf}
-use Rattle.words.specs.Bounds.{most_commands, most_limits, most_readings}
 use Rattle.words.specs.declared.counts.Shape.{Shape}
-use Rattle.tableau_words.specs.Layout.{size}
+use Rattle.tableau_words.specs.Layout.{size, most_size}
 use Rattle.corner_runs.specs.Answers.{HoldsCorner}
 use Rattle.corner_list.specs.declared.corner.Corner.{Corner}
-
--- How many words a record has: the size of a tableau at the greatest counts.
-abbrev pub most_words : ℕ
-most_words = size (record { commands = most_commands; limits = most_limits; readings = most_readings })
 
 -- The words hold the tableau, in width, of a corner of the plant.
 abbrev pub CornerWords : Meaning → List ℤ → Type 0
@@ -24,7 +19,7 @@ tableau_in c r = take (size c) r.words
 
 -- The record of a corner of the plant.
 abbrev pub Record : Meaning → Corner → Type 0
-Record p r = (length r.words ≡ most_words) × ∥ ((X : CornerOf p) × HoldsCorner p X (tableau_in (shape_of p) r) × (r.mask ≡ mask_of p X)) ∥₁
+Record p r = (length r.words ≡ most_size) × ∥ ((X : CornerOf p) × HoldsCorner p X (tableau_in (shape_of p) r) × (r.mask ≡ mask_of p X)) ∥₁
 
 -- The record at a place from 0.
 abbrev pub corner : List Corner → ℕ → Corner

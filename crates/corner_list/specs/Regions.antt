@@ -5,13 +5,14 @@ use Rattle.plant.specs.Meaning.{Meaning, shape_of}
 use Rattle.tableau.specs.Plants.{CornerOf}
 use Rattle.tableau.specs.Readings.{Region}
 use Rattle.words.specs.declared.counts.Shape.{Shape}
+use Rattle.tableau_words.specs.Layout.{most_size}
 use Rattle.corner_runs.specs.Answers.{HoldsCorner}
-use Rattle.corner_list.specs.Records.{most_words, tableau_in, corner}
+use Rattle.corner_list.specs.Records.{tableau_in, corner}
 use Rattle.corner_list.specs.declared.corner.Corner.{Corner}
 
 -- Every record has all its words, and those of its tableau are in width.
 abbrev pub AllReadable : Shape → List Corner → Type 0
-AllReadable c rs = (k : ℕ) → k < length rs → (length (corner rs k).words ≡ most_words) × AllInWidth (tableau_in c (corner rs k))
+AllReadable c rs = (k : ℕ) → k < length rs → (length (corner rs k).words ≡ most_size) × AllInWidth (tableau_in c (corner rs k))
 
 -- The region of any corner that the record holds has the reading in it,
 abbrev pub InRegion : Shape → List ℤ → Corner → Type 0

@@ -5,6 +5,5 @@ pub mod corner;
 pub mod lists;
 pub mod outside;
 pub mod region;
-pub mod sizes;
 #[cfg(test)]
 mod tests;

@@ -7,10 +7,5 @@ use crate::corner::Corner;
 pub fn lists(corners: &[Corner], mask: u32) -> bool
     ensures { ListsAnswer corners.now mask result }
 {
-    for corner in corners {
-        if corner.mask == mask {
-            return true;
-        }
-    }
-    false
+    corners.iter().any(|corner| corner.mask == mask)
 }

@@ -8,14 +8,7 @@ pub fn outside(mask: u32, limits: usize, number: usize) -> Option<usize>
     requires { limits ≤ most_limits }
     ensures { OutsideAnswer mask limits number result }
 {
-    let mut before = 0;
-    for limit in 0..limits {
-        if (mask >> limit) & 1 == 0 {
-            if before == number {
-                return Some(limit);
-            }
-            before += 1;
-        }
-    }
-    None
+    (0..limits)
+        .filter(|limit| (mask >> limit) & 1 == 0)
+        .nth(number)
 }

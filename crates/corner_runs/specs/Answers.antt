@@ -1,5 +1,5 @@
 -- What the loops answer, over words that hold the tableau of the corner that they begin at.
-use Rattle.std.specs.Prelude.{◌≡◌, ℕ, ◌+◌, List, length, take, ℤ, Some, None, Option}
+use Rattle.std.specs.Prelude.{◌≡◌, ℕ, ◌+◌, List, length, take, ℤ, Some, None, Option, Ok, Err, Result}
 use Rattle.plant.specs.Meaning.{Meaning, shape_of}
 use Rattle.plant.specs.Commands.{column}
 use Rattle.tableau.specs.Plants.{commands, limits, all_columns, CornerOf, SearchCorner}
@@ -10,11 +10,10 @@ use Rattle.corner_words.specs.Corners.{Holds}
 use Rattle.corner_runs.specs.SolveRuns.{SolveRun, Settled, WithoutRow, BeyondWidth}
 use Rattle.corner_runs.specs.StartRuns.{LeastStopping, StartRun, StartBeyondWidth}
 use Rattle.corner_runs.specs.declared.exchanges.Exchange.{Exchange}
-use Rattle.corner_runs.specs.declared.run.End.{End}
-use Rattle.corner_runs.specs.declared.run.End.TheVariants.{Settled as AtSettled, NoRow, OutOfWidth}
 use Rattle.corner_runs.specs.declared.run.Ran.{Ran}
-use Rattle.corner_runs.specs.declared.search.StartEnd.{StartEnd}
-use Rattle.corner_runs.specs.declared.search.StartEnd.TheVariants as start
+use Rattle.corner_runs.specs.declared.run.Unsettled.{Unsettled}
+use Rattle.corner_runs.specs.declared.run.Unsettled.TheVariants.{NoRow, OutOfWidth}
+use Rattle.corner_runs.specs.declared.search.OutOfWidthAt.{OutOfWidthAt}
 use Rattle.corner_runs.specs.declared.search.Searched.{Searched}
 
 -- The words hold the tableau of a corner of the plant.
@@ -39,10 +38,10 @@ pub record SomeSearch (c : Shape) (ws : List ℤ) : Type 0 where
   pub holds : HoldsSearch p X ws
 
 -- How the run from X ended at Y. Limits count from 0. Out of width, nothing is said of the words.
-abbrev pub EndedAt : (p : Meaning) → List ℤ → CornerOf p → List ℤ → End → Type 0
-EndedAt p θ Y ws AtSettled = Settled p θ Y × HoldsCorner p Y ws
-EndedAt p θ Y ws (NoRow j) = WithoutRow p θ Y j × HoldsCorner p Y ws
-EndedAt p θ Y ws (OutOfWidth j) = BeyondWidth p θ Y j
+abbrev pub EndedAt : (p : Meaning) → List ℤ → CornerOf p → List ℤ → Result Unit Unsettled → Type 0
+EndedAt p θ Y ws (Ok x) = Settled p θ Y × HoldsCorner p Y ws
+EndedAt p θ Y ws (Err (NoRow j)) = WithoutRow p θ Y j × HoldsCorner p Y ws
+EndedAt p θ Y ws (Err (OutOfWidth j)) = BeyondWidth p θ Y j
 
 -- The run from X: its exchanges, of which the trail keeps as many as it has room for, and its end.
 pub record RunFrom (p : Meaning) (θ : List ℤ) (X : CornerOf p) (ws : List ℤ) (room : ℕ) (trail : List Exchange) (r : Ran) : Type 0 where
@@ -70,9 +69,9 @@ abbrev pub StoppingAnswer : Shape → List ℤ → Option ℕ → Type 0
 StoppingAnswer c ws r = (p : Meaning) (X : SearchCorner p) → c ≡ shape_of p → HoldsSearch p X ws → StoppingAt p X r
 
 -- How the search ended at Y.
-abbrev pub StartEndedAt : (p : Meaning) → SearchCorner p → List ℤ → StartEnd → Type 0
-StartEndedAt p Y ws start.Ended = SearchEnded p Y × HoldsSearch p Y ws
-StartEndedAt p Y ws (start.OutOfWidth j) = StartBeyondWidth p Y j
+abbrev pub StartEndedAt : (p : Meaning) → SearchCorner p → List ℤ → Result Unit OutOfWidthAt → Type 0
+StartEndedAt p Y ws (Ok x) = SearchEnded p Y × HoldsSearch p Y ws
+StartEndedAt p Y ws (Err e) = StartBeyondWidth p Y e.0
 
 -- The search from X.
 pub record SearchFrom (p : Meaning) (X : SearchCorner p) (ws : List ℤ) (r : Searched) : Type 0 where

@@ -1,50 +1,42 @@
 // The search for a first corner.
-ghost use Rattle.words.specs.Layout.{InBounds};
 ghost use Rattle.corner_runs.specs.Answers.{SomeSearch, SearchAnswer};
 
 use crate::stopping::least_stopping;
-use corner_words::enter::{Entered, enter};
-use words::counts::Shape;
+use corner_words::enter::{NotEntered, enter};
+use tableau_words::view::Tableau;
+use words::counts::Counts;
 
-// How a search ended; the limit counts from 0.
-#[derive(Clone, Copy)]
-pub enum StartEnd {
-    // No limit stops the direction Y.
-    Ended,
-    // The tableau after the limit has entered is out of width.
-    OutOfWidth(usize),
-}
+// The tableau after this limit, from 0, has entered is out of width.
+#[derive(Clone, Copy, PartialEq, Eq, Debug)]
+pub struct OutOfWidthAt(pub usize);
 
-// The end of a search and how many exchanges led there.
+// How a search ended, well where no limit stops the direction Y, and how many exchanges led there.
 #[derive(Clone, Copy)]
 pub struct Searched {
-    pub end: StartEnd,
+    pub end: Result<(), OutOfWidthAt>,
     pub exchanges: u32,
 }
 
 // Lets the least limit that stops the direction Y enter until none does.
-pub fn search(words: &mut [i64], shape: Shape) -> Searched
-    requires counts { InBounds shape }
-    requires corner { SomeSearch shape words.old }
-    ensures { SearchAnswer shape words.old words.new result }
+pub fn search(words: &mut [i64], counts: Counts) -> Searched
+    requires { SomeSearch counts.shape words.old }
+    ensures { SearchAnswer counts.shape words.old words.new result }
 {
     let mut exchanges = 0;
-    loop {
-        let Some(limit) = least_stopping(words, shape) else {
-            return Searched {
-                end: StartEnd::Ended,
-                exchanges,
-            };
-        };
-        match enter(words, shape, limit) {
-            Entered::Across(_left) => exchanges += 1,
-            Entered::NoRow => unreachable(),
-            Entered::OutOfWidth => {
+    while let Some(limit) = least_stopping(Tableau { counts, words }) {
+        match enter(words, counts, limit) {
+            Ok(_left) => exchanges += 1,
+            Err(NotEntered::NoRow) => unreachable!(),
+            Err(NotEntered::OutOfWidth) => {
                 return Searched {
-                    end: StartEnd::OutOfWidth(limit),
+                    end: Err(OutOfWidthAt(limit)),
                     exchanges,
                 };
             }
         }
+    }
+    Searched {
+        end: Ok(()),
+        exchanges,
     }
 }

@@ -16,8 +16,8 @@ use Rattle.tableau_words.specs.Exchanges.{OutOfWidthAcross, ExchangeAnswer}
 use Rattle.tableau_words.specs.Leaving.{LeavingAnswer}
 use Rattle.corner_words.specs.Corners.{CornerIn, InWidthAt}
 use Rattle.corner_words.specs.Enters.{EnterAnswer}
-use Rattle.corner_words.specs.Reads.{LimitAnswer}
-use Rattle.corner_words.specs.declared.enter.Entered.TheVariants.{Across, NoRow, OutOfWidth}
+use Rattle.corner_words.specs.declared.enter.NotEntered.TheVariants.{NoRow, OutOfWidth}
+use Rattle.corner_words.proofs.Holdings.{LimitAnswer}
 use Rattle.corner_words.proofs.Orders.{in_width_same}
 
 -- The tableau of a corner.
@@ -37,14 +37,14 @@ module _ (p : Meaning) (n : ℕ) (a : ℕ → ℕ → ℤ) (X : CornerIn p n a) 
           out e.g e.β' e.D' e.U' e.exchanged e.lowest (in_width_same p n a Y Z back W)
 
 module _ (c : Shape) (j : ℕ) (before : List ℤ) where
-  pub no_row : LeavingAnswer c j before None → EnterAnswer c j before before NoRow
+  pub no_row : LeavingAnswer c j before None → EnterAnswer c j before before (Err NoRow)
   no_row N p n a X s all few H = (N p a X.β X.D X.U s H.held, refl)
 
   module _ (place : j < c.limits) (r : ℕ) (L : LeavingAnswer c j before (Some r)) (words : List ℤ) where
     below : (p : Meaning) (n : ℕ) → c ≡ shape_of p → limits p ≤ n → j < n
     below p n s all = let l : j < limits p = subst (λ (q : Shape). j < q.limits) s place in omega arith
 
-    pub gone_across : (l : ℕ) → LimitAnswer c r before l → (x : Unit) → ExchangeAnswer c r j before words (Ok x) → EnterAnswer c j before words (Across l)
+    pub gone_across : (l : ℕ) → LimitAnswer c r before l → (x : Unit) → ExchangeAnswer c r j before words (Ok x) → EnterAnswer c j before words (Ok l)
     gone_across l e x E p n a X s all few H =
         let leaves = L p a X.β X.D X.U s H.held in
         let A = E p a X.β X.D X.U s (tableau_of p n a X) H.held in
@@ -57,7 +57,7 @@ module _ (c : Shape) (j : ℕ) (before : List ℤ) where
           holds = record { held = A.held; in_width = A.in_width };
         }
 
-    pub out_of_width : (x : Refused) → ExchangeAnswer c r j before words (Err x) → EnterAnswer c j before words OutOfWidth
+    pub out_of_width : (x : Refused) → ExchangeAnswer c r j before words (Err x) → EnterAnswer c j before words (Err OutOfWidth)
     out_of_width x E p n a X s all few H =
         let leaves = L p a X.β X.D X.U s H.held in
         record {

@@ -6,11 +6,7 @@ use Rattle.plant.specs.Meaning.{Meaning, shape_of}
 use Rattle.tableau.specs.Masks.{mask_of}
 use Rattle.tableau.specs.Plants.{limits, CornerOf}
 use Rattle.words.specs.declared.counts.Shape.{Shape}
-use Rattle.corner_words.specs.Corners.{CornerIn, Holds}
-
--- Row r belongs to limit l, at any corner whose tableau the words hold.
-abbrev pub LimitAnswer : Shape → ℕ → List ℤ → ℕ → Type 0
-LimitAnswer c r ws l = (p : Meaning) (n : ℕ) (a : ℕ → ℕ → ℤ) (X : CornerIn p n a) → c ≡ shape_of p → Holds p n a X ws → l ≡ X.β r
+use Rattle.corner_words.specs.Corners.{Holds}
 
 -- No row belongs to an artificial limit.
 abbrev pub OwnLimits : Shape → List ℤ → Type 0

@@ -1,35 +1,33 @@
 // From corner to corner by an entering limit.
 ghost use Rattle.std.specs.Prelude.{◌<◌};
-ghost use Rattle.words.specs.Layout.{InBounds};
 ghost use Rattle.corner_words.specs.Corners.{Holding};
 ghost use Rattle.corner_words.specs.Enters.{EnterAnswer};
 
-use crate::read::row_limit;
+use rows::OutOfWidth;
 use tableau_words::exchange::exchange;
-use tableau_words::leaving::leaving;
-use words::counts::Shape;
+use tableau_words::view::Tableau;
+use words::counts::Counts;
 
-// What became of an entering limit; the limit that left counts from 0.
-#[derive(Clone, Copy)]
-pub enum Entered {
-    Across(usize),
+// Why a limit did not enter.
+#[derive(Clone, Copy, PartialEq, Eq, Debug)]
+pub enum NotEntered {
+    // No limit can leave.
     NoRow,
+    // The tableau after it has entered is out of width.
     OutOfWidth,
 }
 
-// Limit `limit`, from 0, enters, and the limit leaves whose ratio is the least. Out of width, nothing is said of the words.
-pub fn enter(words: &mut [i64], shape: Shape, limit: usize) -> Entered
-    requires counts { InBounds shape }
-    requires place { limit < shape.limits }
-    requires holding { Holding shape words.old }
-    ensures { EnterAnswer shape limit words.old words.new result }
+// Limit `limit`, from 0, enters, and the limit leaves whose ratio is the least, which is answered, from 0 too. Out of width, nothing is said of the words: so that they hold a corner is a clause here, and no type of the words can say it.
+pub fn enter(words: &mut [i64], counts: Counts, limit: usize) -> Result<usize, NotEntered>
+    requires place { limit < counts.shape.limits }
+    requires holding { Holding counts.shape words.old }
+    ensures { EnterAnswer counts.shape limit words.old words.new result }
 {
-    let Some(row) = leaving(words, shape, limit) else {
-        return Entered::NoRow;
-    };
-    let left = row_limit(words, shape, row);
-    match exchange(words, shape, row, limit) {
-        Ok(()) => Entered::Across(left),
-        Err(_) => Entered::OutOfWidth,
+    let tableau = Tableau { counts, words };
+    let row = tableau.leaving(limit).ok_or(NotEntered::NoRow)?;
+    let left = tableau.row_limit(row);
+    match exchange(words, counts, row, limit) {
+        Ok(()) => Ok(left),
+        Err(OutOfWidth) => Err(NotEntered::OutOfWidth),
     }
 }

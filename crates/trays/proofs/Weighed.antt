@@ -35,6 +35,10 @@ abbrev pub WeighedBy : Shape → List ℤ → ℕ → ℕ → List ℤ → Type 
 WeighedBy c ws j k xs = (β : ℕ → ℕ) → ((r : ℕ) → r < c.commands → entries ws (1 + r) ≡ pos (β r)) → ((r s : ℕ) → r < c.commands → s < c.commands → β r ≡ β s → r ≡ s)
     → Weighed β (λ r. neg_ℤ (number_at c ws r (limit_column c j))) k xs
 
+-- The limit that a row is told to have is one of the plant's.
+pub row_known : (c : Shape) (ws : List ℤ) (r l : ℕ) → RowsKnown c ws → r < c.commands → entries ws (1 + r) ≡ pos l → l < c.limits
+row_known c ws r l known inside e = let (k, inside', named) = known r inside in omega (arith, ints, e, named, inside')
+
 -- One row more, with its limit and its weight.
 pub weighed_row : (c : Shape) (ws : List ℤ) (j k : ℕ) (xs : List ℤ) (l : ℕ) (z : ℤ) → k < c.commands → entries ws (1 + k) ≡ pos l → z ≡ neg_ℤ (number_at c ws k (limit_column c j)) → l < length xs
     → WeighedBy c ws j k xs → WeighedBy c ws j (k + 1) (set xs l z)

@@ -1,24 +1,17 @@
 // The direction of the search.
-ghost use Rattle.std.specs.Prelude.{◌≡◌, length};
-ghost use Rattle.exact.specs.Bounds.{AllInWidth};
-ghost use Rattle.words.specs.Layout.{InBounds};
-ghost use Rattle.tableau_words.specs.Layout.{size};
 ghost use Rattle.trays.specs.Directions.{DirectionAnswer};
 
 use crate::tray::TRAY;
-use tableau_words::artificial::artificial_sum;
-use words::counts::Shape;
+use tableau_words::view::Tableau;
 
 // The direction Y at a corner of the search: the sum of the rows of artificial limits, and zeros.
-pub fn direction(words: &[i64], shape: Shape) -> [i64; TRAY]
-    requires counts { InBounds shape }
-    requires long { length words.now ≡ size shape }
-    requires widths { AllInWidth words.now }
-    ensures { DirectionAnswer shape words.now result }
+pub fn direction(tableau: Tableau<'_>) -> [i64; TRAY]
+    ensures { DirectionAnswer tableau.entry.counts.shape tableau.entry.words.now result }
 {
     let mut numbers = [0; TRAY];
-    for i in 0..shape.commands {
-        numbers[i] = artificial_sum(words, shape, 1 + i);
+    let commands = tableau.counts.shape().commands;
+    for (i, number) in numbers[..commands].iter_mut().enumerate() {
+        *number = tableau.artificial_sum(1 + i);
     }
     numbers
 }

@@ -1,10 +1,23 @@
 // Worked numbers.
+ghost use Rattle.std.specs.Prelude.{◌≡◌, IfOk};
+
 use crate::command::command;
 use crate::direction::direction;
 use crate::tray::{TRAY, lay};
 use crate::weights::weights;
 use std::test::Fail;
-use words::counts::Shape;
+use tableau_words::reading::{Reading, TableauAt};
+use tableau_words::view::Tableau;
+use words::counts::{Counts, Shape};
+
+fn counts_of(shape: Shape) -> Result<Counts, Fail>
+    ensures { IfOk result (λ c. c.shape ≡ shape) }
+{
+    match Counts::new(shape) {
+        Some(counts) => Ok(counts),
+        None => Err(Fail::new("the counts are those of a plant")),
+    }
+}
 
 const PLANT_K: Shape = Shape {
     commands: 2,
@@ -20,10 +33,16 @@ const ONE_AND_THREE: [i64; 35] = [
 
 #[test]
 fn command_of_plant_k(rt: HostRuntime) -> Result<(), Fail> {
-    assert!(rt;
-        command(&ONE_AND_THREE, PLANT_K, &[0])
-            == [4, 2, 1, 6, 0, 0, 0, 0, 0, 0, 0, 0, 0, 0, 0, 0, 0, 0]
-    );
+    let counts = counts_of(PLANT_K)?;
+    let reading = Reading {
+        counts,
+        numbers: &[0],
+    };
+    let tableau = TableauAt {
+        reading,
+        words: &ONE_AND_THREE,
+    };
+    assert!(rt; command(tableau) == [4, 2, 1, 6, 0, 0, 0, 0, 0, 0, 0, 0, 0, 0, 0, 0, 0, 0]);
     Ok(())
 }
 
@@ -38,10 +57,16 @@ const THREE_HALVES: [i64; 8] = [2, 0, 1, 1, 2, -3, -3, 0];
 
 #[test]
 fn command_of_three_halves(rt: HostRuntime) -> Result<(), Fail> {
-    assert!(rt;
-        command(&THREE_HALVES, ONE_LIMIT, &[])
-            == [3, 2, 3, 0, 0, 0, 0, 0, 0, 0, 0, 0, 0, 0, 0, 0, 0, 0]
-    );
+    let counts = counts_of(ONE_LIMIT)?;
+    let reading = Reading {
+        counts,
+        numbers: &[],
+    };
+    let tableau = TableauAt {
+        reading,
+        words: &THREE_HALVES,
+    };
+    assert!(rt; command(tableau) == [3, 2, 3, 0, 0, 0, 0, 0, 0, 0, 0, 0, 0, 0, 0, 0, 0, 0]);
     Ok(())
 }
 
@@ -50,20 +75,28 @@ const FOUR_HALVES: [i64; 8] = [2, 0, 3, 1, 2, -12, -4, 0];
 
 #[test]
 fn command_of_four_halves(rt: HostRuntime) -> Result<(), Fail> {
-    assert!(rt;
-        command(&FOUR_HALVES, ONE_LIMIT, &[])
-            == [2, 1, 6, 0, 0, 0, 0, 0, 0, 0, 0, 0, 0, 0, 0, 0, 0, 0]
-    );
+    let counts = counts_of(ONE_LIMIT)?;
+    let reading = Reading {
+        counts,
+        numbers: &[],
+    };
+    let tableau = TableauAt {
+        reading,
+        words: &FOUR_HALVES,
+    };
+    assert!(rt; command(tableau) == [2, 1, 6, 0, 0, 0, 0, 0, 0, 0, 0, 0, 0, 0, 0, 0, 0, 0]);
     Ok(())
 }
 
 // The numbers in the column of limit 2 are -1 and 1.
 #[test]
 fn weights_of_limit_2(rt: HostRuntime) -> Result<(), Fail> {
-    assert!(rt;
-        weights(&ONE_AND_THREE, PLANT_K, 1)
-            == [1, 1, -1, 0, 0, 0, 0, 0, 0, 0, 0, 0, 0, 0, 0, 0, 0, 0]
-    );
+    let counts = counts_of(PLANT_K)?;
+    let tableau = Tableau {
+        counts,
+        words: &ONE_AND_THREE,
+    };
+    assert!(rt; weights(tableau, 1) == [1, 1, -1, 0, 0, 0, 0, 0, 0, 0, 0, 0, 0, 0, 0, 0, 0, 0]);
     Ok(())
 }
 
@@ -80,9 +113,12 @@ const PRIMES: [i64; 18] = [
 
 #[test]
 fn direction_of_the_artificial_limit(rt: HostRuntime) -> Result<(), Fail> {
-    assert!(rt;
-        direction(&PRIMES, TWO_LIMITS) == [0, 9973, 0, 0, 0, 0, 0, 0, 0, 0, 0, 0, 0, 0, 0, 0, 0, 0]
-    );
+    let counts = counts_of(TWO_LIMITS)?;
+    let tableau = Tableau {
+        counts,
+        words: &PRIMES,
+    };
+    assert!(rt; direction(tableau) == [0, 9973, 0, 0, 0, 0, 0, 0, 0, 0, 0, 0, 0, 0, 0, 0, 0, 0]);
     Ok(())
 }
 

@@ -1,25 +1,23 @@
-use Rattle.std.proofs.Common.{◌≡◌, ◌/◌, ◌^◌, sym, ◌∙◌, arith}
+use Rattle.std.proofs.Common.{◌≡◌, ℕ, ◌/◌, ◌%◌, ◌^◌, eqb, Some, None, Option, sym, refl, ◌∙◌, subst, arith, rules, tests}
 use lib.Bits.{bit_and}
+use Rattle.std.specs.Option.{option_map}
+use Rattle.std.proofs.lemmas.Iterator.{YieldsList-from_range}
+use Rattle.std.proofs.lemmas.Iterator.Consumers.{nth_from_yields_List, YieldsList-from_filter}
 use Rattle.std.proofs.lemmas.Nat.{and_mask}
-use Rattle.corner_list.specs.Outside.{bit}
-use Rattle.corner_list.proofs.ClearBits.{clear_none, clear_more, clear_same}
+use Rattle.corner_list.specs.Outside.{OutsideAnswer}
+use Rattle.corner_list.proofs.ClearBits.{outside_answered}
 use Rattle.corner_list.proofs.outside.outside.Goals as goal
-use Rattle.corner_list.proofs.outside.outside.Goals.{then-mask-limit-eq0+else-before-number, else-mask-limit-eq0}
 
-pub loop-limit-init : goal.loop-limit-init
-loop-limit-init c = (clear_none c.args.mask, omega arith)
+same : (r : Option ℕ) → option_map (λ (x : ℕ). x) r ≡ r
+same (Some x) = refl
+same None = refl
 
-pub returns-then-before-number : goal.returns-then-before-number
-returns-then-before-number c =
-    let low : bit_and (c.args.mask / 2 ^ c.loop-limit.limit) 1 ≡ bit c.args.mask c.loop-limit.limit = and_mask (c.args.mask / 2 ^ c.loop-limit.limit) 1 in
-    (omega arith, omega arith, omega arith)
+low : (x : ℕ) → bit_and x 1 ≡ x % 2
+low x = and_mask x 1
 
-pub loop-limit-preserved : goal.loop-limit-preserved
-loop-limit-preserved c =
+pub returns : goal.returns
+returns c =
+    let n = c.args.limits in
     let b = c.args.mask in
-    let j = c.loop-limit.limit in
-    let low : bit_and (b / 2 ^ j) 1 ≡ bit b j = and_mask (b / 2 ^ j) 1 in
-    elim c.if-mask-limit-eq0.branch [
-      | then-mask-limit-eq0+else-before-number w ↦ (omega (arith, clear_more b j (sym low ∙ w.if-mask-limit-eq0.true)), omega arith)
-      | else-mask-limit-eq0 w ↦ (omega (arith, clear_same b j (λ e. w.if-mask-limit-eq0.false (low ∙ e))), omega arith)
-    ]
+    let found = nth_from_yields_List c.nth.result c.nth.new.self c.args.number c.nth.ensures.ran (YieldsList-from_filter _ (λ j. eqb (bit_and (b / 2 ^ j) 1) 0) (YieldsList-from_range 0 n n c.filter.ensures.source (omega arith)) c.filter.ensures.closure (λ x r q k. search (rules, tests))) in
+    subst (OutsideAnswer b n c.args.number) (sym (simp low at found) ∙ same c.nth.result) (outside_answered b n c.args.number)

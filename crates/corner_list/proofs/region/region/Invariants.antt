@@ -6,8 +6,8 @@ use Rattle.corner_list.proofs.region.region.Given as goal
 
 -- No region so far holds the reading.
 abbrev pub invariant-corners : goal.invariant-corners
-invariant-corners l = (i : ℕ) → i < l.place → OutOfRegion l.shape l.reading (corner l.corners i)
+invariant-corners l = (i : ℕ) → i < l.place → OutOfRegion l.reading.counts.shape l.reading.numbers.now (corner l.corners i)
 
 -- No slack so far is negative.
 abbrev pub invariant-loop-limit : goal.invariant-loop-limit
-invariant-loop-limit l = ClearTo l.shape l.reading (corner l.corners l.place) l.limit
+invariant-loop-limit l = ClearTo l.reading.counts.shape l.reading.numbers.now (corner l.corners l.place) l.limit

@@ -5,7 +5,7 @@ use Rattle.corner_runs.proofs.search.search.Given as goal
 
 -- The search so far.
 abbrev pub invariant-loop-limit : goal.invariant-loop-limit
-invariant-loop-limit l = Searching l.shape l.initial.words l.exchanges l.words
+invariant-loop-limit l = Searching l.counts.shape l.initial.words l.exchanges l.words
 
 abbrev pub decreases-loop-limit : goal.decreases-loop-limit
-decreases-loop-limit l = choose (l.shape.limits + l.shape.commands) l.shape.commands - l.exchanges
+decreases-loop-limit l = choose (l.counts.shape.limits + l.counts.shape.commands) l.counts.shape.commands - l.exchanges

@@ -3,5 +3,5 @@ use lib.Signed.{quot_z}
 use Rattle.trays.proofs.command.divide.Given as goal
 
 -- The numbers so far are divided.
-abbrev pub invariant-loop-i : goal.invariant-loop-i
-invariant-loop-i l = l.numbers ≡ map (λ z. quot_z z l.by) (take l.i l.initial.numbers) ++ drop l.i l.initial.numbers
+abbrev pub invariant-loop-number : goal.invariant-loop-number
+invariant-loop-number l = l.numbers ≡ map (λ z. quot_z z l.by) (take l.number-index l.initial.numbers) ++ drop l.number-index l.initial.numbers

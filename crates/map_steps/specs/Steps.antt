@@ -20,13 +20,13 @@ use Rattle.trays.specs.Weights.{WeightsList}
 use Rattle.map_steps.specs.Pairs.{AllExamined, Due}
 use Rattle.map_steps.specs.ReadingFaults.{ReadingsFit, ReadingsFaulty}
 use Rattle.map_steps.specs.States.{Standing, State, View}
-use Rattle.map_steps.specs.declared.reply.Started.{Started}
-use Rattle.map_steps.specs.declared.reply.Solved.{Solved}
+use Rattle.map_steps.specs.declared.reply.Reached.{Reached}
 use Rattle.map_steps.specs.declared.reply.Grown.{Grown}
 use Rattle.map_steps.specs.declared.reply.Grown.TheVariants.{Nothing, Listed, Finished}
 use Rattle.map_steps.specs.declared.reply.Answered.{Answered}
-use Rattle.map_steps.specs.declared.reply.Reply.{Reply}
-use Rattle.map_steps.specs.declared.reply.Reply.TheVariants as reply
+use Rattle.map_steps.specs.declared.reply.Done.{Done}
+use Rattle.map_steps.specs.declared.reply.Done.TheVariants as done
+use Rattle.map_steps.specs.Replies.{Reply}
 
 -- A call: a start is handed a plant, by the number of its sort and its meaning; a solve and an answer a reading.
 pub data Call : Type 0 where
@@ -35,22 +35,22 @@ pub data Call : Type 0 where
   Grow : Call
   Answer : List ℤ → Call
 
--- The result of each call as a reply.
-abbrev pub to_start : Result Started Refusal → Reply
-to_start (Ok a) = reply.Start a
-to_start (Err e) = reply.Refused e
+-- The result of a call as a reply.
+abbrev pub to_reply : {A : Type 0} → (A → Done) → Result A Refusal → Reply
+to_reply f (Ok a) = Ok (f a)
+to_reply f (Err e) = Err e
 
-abbrev pub to_solve : Result Solved Refusal → Reply
-to_solve (Ok a) = reply.Solve a
-to_solve (Err e) = reply.Refused e
+abbrev pub to_start : Result Reached Refusal → Reply
+to_start r = to_reply done.Start r
+
+abbrev pub to_solve : Result Reached Refusal → Reply
+to_solve r = to_reply done.Solve r
 
 abbrev pub to_grow : Result Grown Refusal → Reply
-to_grow (Ok a) = reply.Grow a
-to_grow (Err e) = reply.Refused e
+to_grow r = to_reply done.Grow r
 
 abbrev pub to_answer : Result Answered Refusal → Reply
-to_answer (Ok a) = reply.Answer a
-to_answer (Err e) = reply.Refused e
+to_answer r = to_reply done.Answer r
 
 -- A tray with its first numbers laid anew; those beyond stay.
 abbrev pub laid : List ℤ → List ℤ → List ℤ
@@ -140,33 +140,33 @@ module _ (v : View) where
 
 -- The call on the map in the view v gets this reply and leaves the view w.
 pub data Step (v w : View) : Call → Reply → Type 0 where
-  start_begun : {k : ℕ} {p : Meaning} → 0 < length v.state.masks → w ≡ v → Step v w (Start k p) (reply.Refused Begun)
-  start_short : {k : ℕ} {p : Meaning} → IsNotBegun v → length v.tray < tray_size → w ≡ v → Step v w (Start k p) (reply.Refused (PlaceShort tray_size))
-  start_full : {k : ℕ} {p : Meaning} → IsNotBegun v → tray_size ≤ length v.tray → v.state.room ≡ 0 → w ≡ v → Step v w (Start k p) (reply.Refused (Full 0))
-  start_wide : {k place : ℕ} {p : Meaning} (made j : ℕ) (Y : SearchCorner p) → Startable v → SearchTo p made Y → StartBeyondWidth p Y j → place ≡ j + 1 → w ≡ v → Step v w (Start k p) (reply.Refused (Width place))
-  start_no_best : {k : ℕ} {p : Meaning} (made : ℕ) (Y : SearchCorner p) → Startable v → SearchTo p made Y → SearchEnded p Y → ArtificialLeft p Y → w ≡ with_tray v (laid (direction_list p Y) v.tray) → Step v w (Start k p) (reply.Refused NoBest)
-  started : {k : ℕ} {p : Meaning} {a : Started} (Y : SearchCorner p) (X : CornerOf p) → Startable v → SearchTo p a.exchanges Y → SearchEnded p Y → SameBasis p X Y → InWidthOf p X → a.mask ≡ mask_of p X
-      → w ≡ with_state v (begun v (record { kind = k; meaning = p }) a.mask) → Step v w (Start k p) (reply.Start a)
-  solve_not_begun : {θ : List ℤ} → IsNotBegun v → w ≡ v → Step v w (Solve θ) (reply.Refused NotBegun)
-  solve_reading : {θ : List ℤ} {place : ℕ} (s : Standing) → v.state.force ≡ Some s → ReadingsFaulty s.meaning θ place → w ≡ v → Step v w (Solve θ) (reply.Refused (Reading place))
-  solve_short : {θ : List ℤ} (s : Standing) → v.state.force ≡ Some s → ReadingsFit s.meaning θ → length v.tray < tray_size → w ≡ v → Step v w (Solve θ) (reply.Refused (PlaceShort tray_size))
-  solve_wide : {θ : List ℤ} {place : ℕ} (s : Standing) (es : List Exchange) (j : ℕ) (Y : CornerOf s.meaning) → Ready v θ s → RunTo v s.meaning θ es Y → BeyondWidth s.meaning θ Y j → place ≡ j + 1 → w ≡ with_trail v es v.tray → Step v w (Solve θ) (reply.Refused (Width place))
+  start_begun : {k : ℕ} {p : Meaning} → 0 < length v.state.masks → w ≡ v → Step v w (Start k p) (Err Begun)
+  start_short : {k : ℕ} {p : Meaning} → IsNotBegun v → length v.tray < tray_size → w ≡ v → Step v w (Start k p) (Err (PlaceShort tray_size))
+  start_full : {k : ℕ} {p : Meaning} → IsNotBegun v → tray_size ≤ length v.tray → v.state.room ≡ 0 → w ≡ v → Step v w (Start k p) (Err (Full 0))
+  start_wide : {k place : ℕ} {p : Meaning} (made j : ℕ) (Y : SearchCorner p) → Startable v → SearchTo p made Y → StartBeyondWidth p Y j → place ≡ j + 1 → w ≡ v → Step v w (Start k p) (Err (Width place))
+  start_no_best : {k : ℕ} {p : Meaning} (made : ℕ) (Y : SearchCorner p) → Startable v → SearchTo p made Y → SearchEnded p Y → ArtificialLeft p Y → w ≡ with_tray v (laid (direction_list p Y) v.tray) → Step v w (Start k p) (Err NoBest)
+  started : {k : ℕ} {p : Meaning} {a : Reached} (Y : SearchCorner p) (X : CornerOf p) → Startable v → SearchTo p a.exchanges Y → SearchEnded p Y → SameBasis p X Y → InWidthOf p X → a.mask ≡ mask_of p X
+      → w ≡ with_state v (begun v (record { kind = k; meaning = p }) a.mask) → Step v w (Start k p) (Ok (done.Start a))
+  solve_not_begun : {θ : List ℤ} → IsNotBegun v → w ≡ v → Step v w (Solve θ) (Err NotBegun)
+  solve_reading : {θ : List ℤ} {place : ℕ} (s : Standing) → v.state.force ≡ Some s → ReadingsFaulty s.meaning θ place → w ≡ v → Step v w (Solve θ) (Err (Reading place))
+  solve_short : {θ : List ℤ} (s : Standing) → v.state.force ≡ Some s → ReadingsFit s.meaning θ → length v.tray < tray_size → w ≡ v → Step v w (Solve θ) (Err (PlaceShort tray_size))
+  solve_wide : {θ : List ℤ} {place : ℕ} (s : Standing) (es : List Exchange) (j : ℕ) (Y : CornerOf s.meaning) → Ready v θ s → RunTo v s.meaning θ es Y → BeyondWidth s.meaning θ Y j → place ≡ j + 1 → w ≡ with_trail v es v.tray → Step v w (Solve θ) (Err (Width place))
   solve_none : {θ : List ℤ} {place : ℕ} (s : Standing) (es : List Exchange) (j : ℕ) (Y : CornerOf s.meaning) (xs : List ℤ) → Ready v θ s → RunTo v s.meaning θ es Y → WithoutRow s.meaning θ Y j → WeightsList s.meaning Y j xs → place ≡ j + 1
-      → w ≡ with_trail v es (laid xs v.tray) → Step v w (Solve θ) (reply.Refused (NoCommand (ByLimit place)))
-  solved : {θ : List ℤ} {a : Solved} (s : Standing) (es : List Exchange) (Y : CornerOf s.meaning) (xs : List ℤ) → Ready v θ s → RunTo v s.meaning θ es Y → Settled s.meaning θ Y → a.mask ≡ mask_of s.meaning Y → a.exchanges ≡ length es → Commands s.meaning Y θ xs
-      → w ≡ with_trail v es (laid xs v.tray) → Step v w (Solve θ) (reply.Solve a)
-  grow_not_begun : IsNotBegun v → w ≡ v → Step v w Grow (reply.Refused NotBegun)
-  grow_finished : (s : Standing) → v.state.force ≡ Some s → FinishedMap v s.meaning → w ≡ v → Step v w Grow (reply.Grow Finished)
-  grow_no_row : (s : Standing) (k j : ℕ) (X : CornerOf s.meaning) → v.state.force ≡ Some s → Due s.meaning v.state.masks v.state.pairs k X j → HasNoRow s.meaning X j → w ≡ with_state v (examined v v.state.masks) → Step v w Grow (reply.Grow Nothing)
-  grow_known : (s : Standing) (j : ℕ) (Y : CornerOf s.meaning) → PairAcross v s j Y → IsListed v (mask_of s.meaning Y) → w ≡ with_state v (examined v v.state.masks) → Step v w Grow (reply.Grow Nothing)
-  grow_full : {place : ℕ} (s : Standing) (j : ℕ) (Y : CornerOf s.meaning) → PairAcross v s j Y → ¬ IsListed v (mask_of s.meaning Y) → length v.state.masks ≡ v.state.room → place ≡ j + 1 → w ≡ v → Step v w Grow (reply.Refused (Full place))
-  grow_wide : {place : ℕ} (s : Standing) (j : ℕ) (Y : CornerOf s.meaning) → PairAcross v s j Y → ¬ IsListed v (mask_of s.meaning Y) → length v.state.masks < v.state.room → ¬ InWidthOf s.meaning Y → place ≡ j + 1 → w ≡ v → Step v w Grow (reply.Refused (Width place))
+      → w ≡ with_trail v es (laid xs v.tray) → Step v w (Solve θ) (Err (NoCommand (ByLimit place)))
+  solved : {θ : List ℤ} {a : Reached} (s : Standing) (es : List Exchange) (Y : CornerOf s.meaning) (xs : List ℤ) → Ready v θ s → RunTo v s.meaning θ es Y → Settled s.meaning θ Y → a.mask ≡ mask_of s.meaning Y → a.exchanges ≡ length es → Commands s.meaning Y θ xs
+      → w ≡ with_trail v es (laid xs v.tray) → Step v w (Solve θ) (Ok (done.Solve a))
+  grow_not_begun : IsNotBegun v → w ≡ v → Step v w Grow (Err NotBegun)
+  grow_finished : (s : Standing) → v.state.force ≡ Some s → FinishedMap v s.meaning → w ≡ v → Step v w Grow (Ok (done.Grow Finished))
+  grow_no_row : (s : Standing) (k j : ℕ) (X : CornerOf s.meaning) → v.state.force ≡ Some s → Due s.meaning v.state.masks v.state.pairs k X j → HasNoRow s.meaning X j → w ≡ with_state v (examined v v.state.masks) → Step v w Grow (Ok (done.Grow Nothing))
+  grow_known : (s : Standing) (j : ℕ) (Y : CornerOf s.meaning) → PairAcross v s j Y → IsListed v (mask_of s.meaning Y) → w ≡ with_state v (examined v v.state.masks) → Step v w Grow (Ok (done.Grow Nothing))
+  grow_full : {place : ℕ} (s : Standing) (j : ℕ) (Y : CornerOf s.meaning) → PairAcross v s j Y → ¬ IsListed v (mask_of s.meaning Y) → length v.state.masks ≡ v.state.room → place ≡ j + 1 → w ≡ v → Step v w Grow (Err (Full place))
+  grow_wide : {place : ℕ} (s : Standing) (j : ℕ) (Y : CornerOf s.meaning) → PairAcross v s j Y → ¬ IsListed v (mask_of s.meaning Y) → length v.state.masks < v.state.room → ¬ InWidthOf s.meaning Y → place ≡ j + 1 → w ≡ v → Step v w Grow (Err (Width place))
   grown : (s : Standing) (j : ℕ) (Y : CornerOf s.meaning) → PairAcross v s j Y → ¬ IsListed v (mask_of s.meaning Y) → length v.state.masks < v.state.room → InWidthOf s.meaning Y
-      → w ≡ with_state v (examined v (v.state.masks ++ mask_of s.meaning Y ∷ [])) → Step v w Grow (reply.Grow Listed)
-  answer_not_begun : {θ : List ℤ} → IsNotBegun v → w ≡ v → Step v w (Answer θ) (reply.Refused NotBegun)
-  answer_reading : {θ : List ℤ} {place : ℕ} (s : Standing) → v.state.force ≡ Some s → ReadingsFaulty s.meaning θ place → w ≡ v → Step v w (Answer θ) (reply.Refused (Reading place))
-  answer_short : {θ : List ℤ} (s : Standing) → v.state.force ≡ Some s → ReadingsFit s.meaning θ → length v.tray < tray_size → w ≡ v → Step v w (Answer θ) (reply.Refused (PlaceShort tray_size))
-  answer_none : {θ : List ℤ} (s : Standing) → Ready v θ s → FinishedMap v s.meaning → NoneBefore v s.meaning θ (length v.state.masks) → w ≡ v → Step v w (Answer θ) (reply.Refused (NoCommand ByMap))
-  answer_not_yet : {θ : List ℤ} (s : Standing) → Ready v θ s → ¬ FinishedMap v s.meaning → NoneBefore v s.meaning θ (length v.state.masks) → w ≡ v → Step v w (Answer θ) (reply.Refused NotYet)
+      → w ≡ with_state v (examined v (v.state.masks ++ mask_of s.meaning Y ∷ [])) → Step v w Grow (Ok (done.Grow Listed))
+  answer_not_begun : {θ : List ℤ} → IsNotBegun v → w ≡ v → Step v w (Answer θ) (Err NotBegun)
+  answer_reading : {θ : List ℤ} {place : ℕ} (s : Standing) → v.state.force ≡ Some s → ReadingsFaulty s.meaning θ place → w ≡ v → Step v w (Answer θ) (Err (Reading place))
+  answer_short : {θ : List ℤ} (s : Standing) → v.state.force ≡ Some s → ReadingsFit s.meaning θ → length v.tray < tray_size → w ≡ v → Step v w (Answer θ) (Err (PlaceShort tray_size))
+  answer_none : {θ : List ℤ} (s : Standing) → Ready v θ s → FinishedMap v s.meaning → NoneBefore v s.meaning θ (length v.state.masks) → w ≡ v → Step v w (Answer θ) (Err (NoCommand ByMap))
+  answer_not_yet : {θ : List ℤ} (s : Standing) → Ready v θ s → ¬ FinishedMap v s.meaning → NoneBefore v s.meaning θ (length v.state.masks) → w ≡ v → Step v w (Answer θ) (Err NotYet)
   answered : {θ : List ℤ} {a : Answered} (s : Standing) (X : CornerOf s.meaning) (xs : List ℤ) → Ready v θ s → a.place < length v.state.masks → a.mask ≡ mask_at v a.place → mask_of s.meaning X ≡ a.mask → Region s.meaning X θ → NoneBefore v s.meaning θ a.place → Commands s.meaning X θ xs
-      → w ≡ with_tray v (laid xs v.tray) → Step v w (Answer θ) (reply.Answer a)
+      → w ≡ with_tray v (laid xs v.tray) → Step v w (Answer θ) (Ok (done.Answer a))

@@ -4,22 +4,15 @@ ghost use Rattle.map_steps.specs.Replies.{grown_number};
 
 use words::refusal::Refusal;
 
-// The first corner, and the exchanges of the search that found it.
-#[derive(Clone, Copy)]
-pub struct Started {
+// The corner that a call came to, and its exchanges on the way there: a start's first corner, or the one at which a solve's run ended.
+#[derive(Clone, Copy, PartialEq, Eq, Debug)]
+pub struct Reached {
     pub mask: u32,
     pub exchanges: u32,
 }
 
-// The corner at which the run ended, and its exchanges.
-#[derive(Clone, Copy)]
-pub struct Solved {
-    pub mask: u32,
-    pub exchanges: u32,
-}
-
-// What a look at one pair came to.
-#[derive(Clone, Copy)]
+// What a look at one pair came to; the numbers are the customer's.
+#[derive(Clone, Copy, PartialEq, Eq, Debug)]
 pub enum Grown {
     // Nothing was added.
     Nothing = 0,
@@ -29,27 +22,29 @@ pub enum Grown {
     Finished = 2,
 }
 
+impl From<Grown> for u32 {
+    ghost from_gives = { λ grown number. number ≡ grown_number grown };
+
+    fn from(grown: Grown) -> u32 {
+        grown as u32
+    }
+}
+
 // The corner whose region holds the reading, and its place in the list, from 0.
-#[derive(Clone, Copy)]
+#[derive(Clone, Copy, PartialEq, Eq, Debug)]
 pub struct Answered {
     pub mask: u32,
     pub place: usize,
 }
 
-// The reply to any call.
-#[derive(Clone, Copy)]
-pub enum Reply {
-    Start(Started),
-    Solve(Solved),
+// What a call did: each kind of call has an answer of its own.
+#[derive(Clone, Copy, PartialEq, Eq, Debug)]
+pub enum Done {
+    Start(Reached),
+    Solve(Reached),
     Grow(Grown),
     Answer(Answered),
-    Refused(Refusal),
 }
 
-impl Grown {
-    pub fn number(self) -> u32
-        ensures { result ≡ grown_number self }
-    {
-        self as u32
-    }
-}
+// The reply to any call.
+pub type Reply = Result<Done, Refusal>;

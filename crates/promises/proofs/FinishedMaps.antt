@@ -1,6 +1,7 @@
 -- A sound list all of whose pairs were examined is finished, so that no run leaves it and it answers wherever a command exists.
 use Rattle.std.proofs.Common.{◌≡◌, ℕ, suc, ◌<◌, ◌⊎◌, List, length, get_or, ℤ, sym, ◌∙◌, inl, inr, arith}
 use native.Mathlib.Decide.{dec_le}
+use Rattle.std.proofs.lemmas.Nat.{row_fits}
 use Rattle.plant.specs.Commands.{Command, KeepsAll, column}
 use Rattle.plant.specs.Meaning.{Meaning}
 use Rattle.tableau.specs.Chain.{more}
@@ -16,24 +17,24 @@ use Rattle.corner_words.proofs.Orders.{in_width_same}
 use Rattle.corner_runs.specs.SolveRuns.{InWidthOf, SolveRun, BeyondWidth}
 use Rattle.corner_runs.specs.declared.exchanges.Exchange.{Exchange}
 use Rattle.corner_runs.proofs.Chains.{plain_run}
-use Rattle.map_steps.specs.Pairs.{AllExamined, outside_below, pairs_each}
+use Rattle.map_steps.specs.Pairs.{AllExamined, pairs_each}
 use Rattle.promises.proofs.SameLimits.{same_back, leads_to_same}
-use Rattle.promises.proofs.PairNumbers.{outside_few, number_below}
+use Rattle.promises.proofs.PairNumbers.{outside_few}
 use Rattle.promises.proofs.Soundness.{WithinList, SoundList}
 
 module _ (p : Meaning) (masks : List ℕ) (pairs : ℕ) (S : SoundList p masks pairs) (all : AllExamined p masks pairs) where
   -- The listed corner at a place; behind the list the first.
   listed_or_first : (k : ℕ) → (X : CornerOf p) × (k < length masks → mask_of p X ≡ get_or masks k 0) × InWidthOf p X
   listed_or_first k = elim (dec_le (suc k) (length masks)) [
-    | yes l ↦ let (X, e, in_width) = S.corners k l in (X, (λ h. e), in_width)
-    | no d ↦ let (X, e, in_width) = S.corners 0 S.some in (X, (λ h. absurd (d h)), in_width)
+    | yes l ↦ let (X, e, in_width) = S.corners k 0 l in (X, (λ h. e), in_width)
+    | no d ↦ let (X, e, in_width) = S.corners 0 0 S.some in (X, (λ h. absurd (d h)), in_width)
   ]
 
   abbrev listed : ℕ → CornerOf p
   listed k = (listed_or_first k).0
 
   finished : Finished p (length masks) listed
-  finished k l j lj out = by (S.examined k l (listed k) ((listed_or_first k).1 l) j lj out (omega (arith, number_below (pairs_each p) k (outside_below p (listed k) j) (length masks) l (outside_few p (listed k) j lj out))))
+  finished k l j lj out = by (S.examined k l (listed k) ((listed_or_first k).1 l) j lj out (omega (arith, outside_few p (listed k) j lj out, row_fits k (pairs_each p) (length masks) (pairs_each p) l (omega arith))))
     where
       by : WithinList p masks (listed k) j → HasNoRow p (listed k) j ⊎ ((i : ℕ) × (i < length masks) × LeadsTo p (listed k) j (listed i))
       by (inl none) = inl none

@@ -1,8 +1,9 @@
 -- Every promise is kept at every call, by induction over the history.
-use Rattle.std.proofs.Common.{◌≡◌, List, [], ◌∷◌, ◌++◌, sym, subst}
+use Rattle.std.proofs.Common.{◌≡◌, List, sym, subst}
+use Rattle.std.proofs.lemmas.List.Elements.{All-nil, All-push}
 use Rattle.map_steps.specs.States.{State}
 use Rattle.map_steps.specs.Steps.{Call, Step}
-use Rattle.map_steps.specs.declared.reply.Reply.{Reply}
+use Rattle.map_steps.specs.Replies.{Reply}
 use Rattle.promises.specs.Promises.{Moment, Kept, AllKept}
 use Rattle.promises.specs.Histories.{History, opens, goes, EveryPromiseIsKept}
 use Rattle.promises.proofs.Soundness.{Sound}
@@ -33,17 +34,13 @@ module _ (m : Moment) (S : Sound m.before.state) (step : Step m.before m.after m
     finished_right = λ θ s e f all is. finished_right m.before m.after θ s f m.reply is (called e);
   }
 
-kept_push : (ms : List Moment) (m : Moment) → AllKept ms → Kept m → AllKept (ms ++ m ∷ [])
-kept_push [] m all k = (k, tt)
-kept_push (n ∷ ms) m (first, all) k = (first, kept_push ms m all k)
-
 -- A history leaves the map sound, with every promise kept.
 sound_and_kept : {x y : State} {ms : List Moment} → Sound x → History x ms y → Sound y × AllKept ms
-sound_and_kept S opens = (S, tt)
+sound_and_kept S opens = (S, All-nil Kept)
 sound_and_kept S (goes {ms} {ns} {y} m past e step q) =
     let (now, all) = sound_and_kept S past in
     let before : Sound m.before.state = subst Sound (sym e) now in
-    (sound_step m.before m.after m.call m.reply before step, subst AllKept (sym q) (kept_push ms m all (kept m before step)))
+    (sound_step m.before m.after m.call m.reply before step, subst AllKept (sym q) (All-push Kept ms m all (kept m before step)))
 
 pub every_promise : EveryPromiseIsKept
 every_promise room ms y h = (sound_and_kept (opened_sound room) h).1

@@ -1,7 +1,7 @@
 -- The numbers of pairs: each pair of a corner and a limit outside it has one of its own.
-use Rattle.std.proofs.Common.{◌≡◌, ℕ, zero, suc, ◌+◌, ◌*◌, ◌/◌, ◌<◌, ◌≤◌, Bool, true, false, cond, sym, refl, ap, ◌∙◌, mul-le-mul_right, suc-mul, le-div_iff_mul-le, arith}
-use native.Mathlib.Decide.{ℕ_discrete, dec_le}
-use lib.Arith.{digits_div}
+use Rattle.std.proofs.Common.{◌≡◌, ℕ, zero, suc, ◌+◌, ◌<◌, ◌≤◌, Bool, cond, sym, refl, ap, ◌∙◌, inl, inr, arith}
+use native.Mathlib.Decide.{ℕ_discrete}
+use Rattle.std.proofs.lemmas.Bool.{cases_order}
 use Rattle.plant.specs.Meaning.{Meaning}
 use Rattle.plant.specs.Commands.{column}
 use Rattle.tableau.specs.Masks.{holds}
@@ -17,12 +17,10 @@ module _ (p : Meaning) (X : CornerOf p) where
   inside_and_outside : (j : ℕ) → outside_below p X j + count j (holds (commands p) X.β) ≡ j
   unfolding outside_below count
   inside_and_outside zero = refl
-  inside_and_outside (suc j) = by (holds (commands p) X.β j) (inside_and_outside j)
+  inside_and_outside (suc j) = one_more (holds (commands p) X.β j) (outside_below p X j) (count j (holds (commands p) X.β)) j (inside_and_outside j)
     where
-      by : (t : Bool) → outside_below p X j + count j (holds (commands p) X.β) ≡ j
-          → cond t (outside_below p X j) (suc (outside_below p X j)) + cond t (suc (count j (holds (commands p) X.β))) (count j (holds (commands p) X.β)) ≡ suc j
-      by true e = omega arith
-      by false e = omega arith
+      one_more : (t : Bool) (n m j : ℕ) → n + m ≡ j → cond t n (suc n) + cond t (suc m) m ≡ suc j
+      one_more t n m j e = grind arith
 
   all_outside : outside_below p X (limits p) + commands p ≡ limits p
   all_outside = ap (λ k. outside_below p X (limits p) + k) (sym (count_holds (limits p) (commands p) X.β X.known (injective (commands p) (column p) X.β X.D X.U X.inverse))) ∙ inside_and_outside (limits p)
@@ -30,11 +28,10 @@ module _ (p : Meaning) (X : CornerOf p) where
   outside_grows : (i j : ℕ) → i ≤ j → outside_below p X i ≤ outside_below p X j
   unfolding outside_below
   outside_grows i zero l = let e : i ≡ 0 = omega arith in rw e (omega arith)
-  outside_grows i (suc j) l = elim (ℕ_discrete i (suc j)) [ yes e ↦ rw e (omega arith) | no d ↦ by (holds (commands p) X.β j) (outside_grows i j (omega arith)) ]
+  outside_grows i (suc j) l = elim (ℕ_discrete i (suc j)) [ yes e ↦ rw e (omega arith) | no d ↦ one_more (holds (commands p) X.β j) (outside_below p X i) (outside_below p X j) (outside_grows i j (omega arith)) ]
     where
-      by : (t : Bool) → outside_below p X i ≤ outside_below p X j → outside_below p X i ≤ cond t (outside_below p X j) (suc (outside_below p X j))
-      by true h = h
-      by false h = omega arith
+      one_more : (t : Bool) (m n : ℕ) → m ≤ n → m ≤ cond t n (suc n)
+      one_more t m n h = grind arith
 
   -- A limit outside the basis is counted below every later one.
   outside_rises : (i j : ℕ) → ¬ InBasis p X i → i < j → outside_below p X i < outside_below p X j
@@ -49,12 +46,10 @@ module _ (p : Meaning) (X : CornerOf p) where
 
   -- And says which limit it is.
   pub outside_one : (i j : ℕ) → ¬ InBasis p X i → ¬ InBasis p X j → outside_below p X i ≡ outside_below p X j → i ≡ j
-  outside_one i j oi oj e = elim (ℕ_discrete i j) [
-    | yes d ↦ d
-    | no d ↦ elim (dec_le i j) [
-      | yes l ↦ absurd (omega (arith, outside_rises i j oi (omega arith)))
-      | no l ↦ absurd (omega (arith, outside_rises j i oj (omega arith)))
-    ]
+  outside_one i j oi oj e = elim (cases_order i j) [
+    | inl d ↦ d
+    | inr (inl l) ↦ absurd (omega (arith, outside_rises i j oi l))
+    | inr (inr l) ↦ absurd (omega (arith, outside_rises j i oj l))
   ]
 
 -- It does not depend on the order of the rows.
@@ -62,16 +57,3 @@ pub outside_same : (p : Meaning) (X Y : CornerOf p) → HasSameLimits p X Y → 
 unfolding outside_below
 outside_same p X Y same zero = refl
 outside_same p X Y same (suc j) = rw (holds_same p X Y same j, outside_same p X Y same j)
-
--- Numbers k n + i, with i below n.
-pub at_most : (n k i k' i' : ℕ) → i' < n → k * n + i < k' * n + i' + 1 → k ≤ k'
-at_most n k i k' i' h l = let d : k ≤ (k' * n + i') / n = (le-div_iff_mul-le (omega arith)).1 (omega arith) in rw (digits_div k' h) at d
-
-pub same_number : (n k i k' i' : ℕ) → i < n → i' < n → k * n + i ≡ k' * n + i' → (k ≡ k') × (i ≡ i')
-same_number n k i k' i' h h' e =
-    let d : k ≡ k' = sym (digits_div k h) ∙ ap (λ (x : ℕ). x / n) e ∙ digits_div k' h' in
-    let f : k' * n + i ≡ k' * n + i' = rw d at e in
-    (d, omega arith)
-
-pub number_below : (n k i k' : ℕ) → k < k' → i < n → k * n + i < k' * n
-number_below n k i k' h l = let a : suc k * n ≤ k' * n = mul-le-mul_right n h in let b : suc k * n ≡ k * n + n = suc-mul k n in omega arith

@@ -1,6 +1,6 @@
 -- Corners of the same limits: an exchange does at the one what it does at the other.
-use Rattle.std.proofs.Common.{◌≡◌, ℕ, suc, Bool, true, false, pos, ◌≤ℤ◌, sym, refl, ap, ◌∙◌, subst}
-use borrow.Author.Tests.{both_ways}
+use Rattle.std.proofs.Common.{◌≡◌, ℕ, suc, true, false, pos, ◌≤ℤ◌, sym, ap, ◌∙◌, subst, inl, inr}
+use Rattle.std.proofs.lemmas.Bool.{both_ways, cases_Bool, false_from_ne_true}
 use Rattle.exact.proofs.Sums.{dot_cong}
 use Rattle.plant.specs.Meaning.{Meaning}
 use Rattle.plant.specs.Commands.{column, value}
@@ -53,19 +53,14 @@ module _ (p : Meaning) (X Y : CornerOf p) (same : HasSameLimits p X Y) where
     };
   }
 
-pub held : (p : Meaning) (X : CornerOf p) (j : ℕ) → InBasis p X j → holds (commands p) X.β j ≡ true
+held : (p : Meaning) (X : CornerOf p) (j : ℕ) → InBasis p X j → holds (commands p) X.β j ≡ true
 held p X j (r, l, e) = ap (holds (commands p) X.β) (sym e) ∙ holds_in (commands p) X.β r l
 
 pub not_held : (p : Meaning) (X : CornerOf p) (j : ℕ) → ¬ InBasis p X j → holds (commands p) X.β j ≡ false
-not_held p X j out = by (holds (commands p) X.β j) refl
-  where
-    by : (t : Bool) → holds (commands p) X.β j ≡ t → holds (commands p) X.β j ≡ false
-    by false e = e
-    by true e = absurd (out (holds_out (commands p) X.β j e))
+not_held p X j out = false_from_ne_true (holds (commands p) X.β j) (λ e. out (holds_out (commands p) X.β j e))
 
 pub holds_same : (p : Meaning) (X Y : CornerOf p) → HasSameLimits p X Y → (j : ℕ) → holds (commands p) X.β j ≡ holds (commands p) Y.β j
-holds_same p X Y same j = by (holds (commands p) X.β j) refl
-  where
-    by : (t : Bool) → holds (commands p) X.β j ≡ t → holds (commands p) X.β j ≡ holds (commands p) Y.β j
-    by true e = e ∙ sym (held p Y j (in_basis_same p X Y same j (holds_out (commands p) X.β j e)))
-    by false e = e ∙ sym (not_held p Y j (λ b. both_ways (holds (commands p) X.β j) e (held p X j (in_basis_same p Y X (same_back p X Y same) j b))))
+holds_same p X Y same j = elim (cases_Bool (holds (commands p) X.β j)) [
+  | inl e ↦ e ∙ sym (held p Y j (in_basis_same p X Y same j (holds_out (commands p) X.β j e)))
+  | inr e ↦ e ∙ sym (not_held p Y j (λ b. both_ways (holds (commands p) X.β j) e (held p X j (in_basis_same p Y X (same_back p X Y same) j b))))
+]

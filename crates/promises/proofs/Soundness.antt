@@ -1,7 +1,10 @@
 -- What every past leaves: each listed corner is in width, and each examined pair leads to no corner outside the list.
-use Rattle.std.proofs.Common.{◌≡◌, ℕ, zero, suc, ◌+◌, ◌*◌, ◌<◌, ◌≤◌, ◌⊎◌, List, [], ◌∷◌, ◌++◌, length, get_or, Some, sym, ap, ◌∙◌, subst, inl, inr, arith}
+use Rattle.std.proofs.Common.{◌≡◌, ℕ, ◌+◌, ◌*◌, ◌<◌, ◌≤◌, ◌⊎◌, List, [], ◌∷◌, length, get_or, Some, sym, ap, ◌∙◌, subst, inl, inr, arith}
 use native.Mathlib.Decide.{dec_le}
-use Rattle.std.proofs.lemmas.List.{length_push, get_or_push, get_or_append_left}
+use Rattle.std.specs.List.{All}
+use Rattle.std.proofs.lemmas.Bool.{cases_lt}
+use Rattle.std.proofs.lemmas.List.Elements.{All-nil, All-cons}
+use Rattle.std.proofs.lemmas.Nat.{row_fits, same_from_place}
 use Rattle.plant.specs.Meaning.{Meaning}
 use Rattle.tableau.specs.Closed.{LeadsTo}
 use Rattle.tableau.specs.Masks.{mask_of}
@@ -12,7 +15,7 @@ use Rattle.corner_runs.specs.SolveRuns.{InWidthOf}
 use Rattle.map_steps.specs.Pairs.{outside_below, pairs_each, Due}
 use Rattle.map_steps.specs.States.{Standing, State}
 use Rattle.promises.proofs.SameLimits.{same_back, in_basis_same, no_row_same, leads_same}
-use Rattle.promises.proofs.PairNumbers.{outside_few, outside_one, outside_same, at_most, same_number}
+use Rattle.promises.proofs.PairNumbers.{outside_few, outside_one, outside_same}
 
 abbrev pub InList : List ℕ → ℕ → Type 0
 InList masks m = (k : ℕ) × (k < length masks) × (get_or masks k 0 ≡ m)
@@ -27,7 +30,7 @@ CornerInWidth p m = (X : CornerOf p) × (mask_of p X ≡ m) × InWidthOf p X
 
 pub record SoundList (p : Meaning) (masks : List ℕ) (pairs : ℕ) : Type 0 where
   pub some : 0 < length masks
-  pub corners : (k : ℕ) → k < length masks → CornerInWidth p (get_or masks k 0)
+  pub corners : All (CornerInWidth p) masks
   pub examined : (k : ℕ) → k < length masks → (X : CornerOf p) → mask_of p X ≡ get_or masks k 0 → (j : ℕ) → j < limits p → ¬ InBasis p X j
       → k * pairs_each p + outside_below p X j < pairs → WithinList p masks X j
 
@@ -41,11 +44,11 @@ module _ (p : Meaning) where
 
   -- The first corner, with no pair examined.
   pub first_sound : (X : CornerOf p) (m : ℕ) → m ≡ mask_of p X → InWidthOf p X → SoundList p (m ∷ []) 0
-  first_sound X m e in_width = record { some = omega arith; corners = corners; examined = λ k l Y f j h out below. absurd (omega arith) }
-    where
-      corners : (k : ℕ) → k < 1 → CornerInWidth p (get_or (m ∷ []) k 0)
-      corners zero l = (X, sym e, in_width)
-      corners (suc k) l = absurd (omega arith)
+  first_sound X m e in_width = record {
+    some = omega arith;
+    corners = All-cons (CornerInWidth p) m [] (X, sym e, in_width) (All-nil (CornerInWidth p));
+    examined = λ k l Y f j h out below. absurd (omega arith);
+  }
 
   -- One pair more, with a list that begins with the old one.
   module _ (masks more : List ℕ) (pairs : ℕ) (S : SoundList p masks pairs) (longer : length masks ≤ length more) (begins : (k : ℕ) → k < length masks → get_or more k 0 ≡ get_or masks k 0)
@@ -58,14 +61,17 @@ module _ (p : Meaning) where
         → k * pairs_each p + outside_below p X j < pairs + 1 → WithinList p more X j
     examined_more k l X e j lj out below = elim (dec_le pairs (k * pairs_each p + outside_below p X j)) [
       | no d ↦ still_within X j (S.examined k old X mask j lj out (omega arith))
-      | yes d ↦ at_due (same_number (pairs_each p) k (outside_below p X j) k₀ (outside_below p X₀ j₀) (outside_few p X j lj out) few₀ (omega (arith, due.place)))
+      | yes d ↦ at_due (same_from_place k (outside_below p X j) k₀ (outside_below p X₀ j₀) (pairs_each p) (outside_few p X j lj out) few₀ (omega (arith, due.place)))
     ]
       where
         few₀ : outside_below p X₀ j₀ < pairs_each p
         few₀ = outside_few p X₀ j₀ due.known due.outside
 
         old : k < length masks
-        old = omega (arith, at_most (pairs_each p) k (outside_below p X j) k₀ (outside_below p X₀ j₀) few₀ (omega (arith, due.place)), due.listed)
+        old = elim (cases_lt k (length masks)) [
+          | inl h ↦ h
+          | inr far ↦ absurd (omega (arith, few₀, due.place, row_fits k₀ (pairs_each p) k (pairs_each p) (omega (arith, due.listed)) (omega arith)))
+        ]
 
         mask : mask_of p X ≡ get_or masks k 0
         mask = e ∙ begins k old
@@ -76,11 +82,5 @@ module _ (p : Meaning) where
             let ej₀ : j₀ ≡ j = outside_one p X j₀ j (λ b. due.outside (in_basis_same p X X₀ (same_back p X₀ X same) j₀ b)) out (sym (outside_same p X₀ X same j₀) ∙ sym ej) in
             subst (WithinList p more X) ej₀ (within_same more X₀ X same j₀ here)
 
-    pub more_sound : ((k : ℕ) → k < length more → CornerInWidth p (get_or more k 0)) → SoundList p more (pairs + 1)
+    pub more_sound : All (CornerInWidth p) more → SoundList p more (pairs + 1)
     more_sound corners = record { some = omega (arith, S.some); corners = corners; examined = examined_more }
-
-  pub corners_push : (masks : List ℕ) (m : ℕ) → ((k : ℕ) → k < length masks → CornerInWidth p (get_or masks k 0)) → CornerInWidth p m → (k : ℕ) → k < length (masks ++ m ∷ []) → CornerInWidth p (get_or (masks ++ m ∷ []) k 0)
-  corners_push masks m corners new k l = elim (dec_le (length masks) k) [
-    | no d ↦ rw (get_or_append_left masks (m ∷ []) 0 k (omega arith)) (corners k (omega arith))
-    | yes d ↦ let e : length masks ≡ k = omega (arith, length_push masks m) in rw (get_or_push masks m 0 k e) new
-  ]

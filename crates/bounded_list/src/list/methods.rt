@@ -18,19 +18,19 @@ impl<'a, T: Copy> List<'a, T> {
     pub fn len(&self) -> usize
         ensures { result ≡ length (contents self.now) }
     {
-        self.len.min(self.items.len())
+        self.len
     }
 
     pub fn is_empty(&self) -> bool
         ensures { result ≡ (length (contents self.now) == 0) }
     {
-        self.len() == 0
+        self.len == 0
     }
 
     pub fn is_full(&self) -> bool
         ensures { result ≡ (length (contents self.now) == room self.now) }
     {
-        self.len() == self.items.len()
+        self.len == self.items.len()
     }
 
     // How many records the list has room for in all.
@@ -43,7 +43,7 @@ impl<'a, T: Copy> List<'a, T> {
     pub fn as_slice(&self) -> &[T]
         ensures { result.now ≡ contents self.now }
     {
-        &self.items[..self.len()]
+        &self.items[..self.len]
     }
 
     // The record at place `i`, counted from 0.
@@ -59,14 +59,12 @@ impl<'a, T: Copy> List<'a, T> {
         ensures room { room self.new ≡ room self.old }
         ensures named { self.new.items.ghost_name ≡ self.old.items.ghost_name }
     {
-        let at = self.len;
-        if at < self.items.len() {
-            self.items[at] = x;
-            self.len = at + 1;
-            Ok(())
-        } else {
-            Err(x)
+        if self.is_full() {
+            return Err(x);
         }
+        self.items[self.len] = x;
+        self.len += 1;
+        Ok(())
     }
 
     // Empties the list. The caller's records stay as they are.

@@ -1,9 +1,8 @@
 -- From a look through the records to the step of an answer.
-use Rattle.std.proofs.Common.{◌≡◌, ℕ, suc, ◌*◌, ◌<◌, ◌≤◌, Bool, true, false, leb, List, length, get_or, ℤ, pos, ◌*ℤ◌, ◌≤ℤ◌, Some, None, sym, refl, ap, ◌∙◌, subst, arith, leb-false, leb-true}
+use Rattle.std.proofs.Common.{◌≡◌, ℕ, suc, ◌*◌, ◌<◌, ◌≤◌, Bool, true, false, leb, List, length, get_or, ℤ, pos, ◌*ℤ◌, ◌≤ℤ◌, Some, Ok, Err, None, sym, refl, ap, ◌∙◌, subst, arith, leb-false, leb-true}
 use Rattle.bounded_list.specs.Contents.{contents}
 use Rattle.plant_table.specs.Tabled.{meaning_of}
 use Rattle.trays.specs.Commands.{CommandAnswer}
-use Rattle.trays.specs.Trays.{tray_size}
 use Rattle.exact.proofs.Sums.{sum_cong}
 use Rattle.plant.specs.Commands.{column}
 use Rattle.plant.specs.Meaning.{Meaning, shape_of}
@@ -24,12 +23,11 @@ use Rattle.words.specs.declared.refusal.Refusal.TheVariants.{NoCommand, NotYet}
 use Rattle.words.specs.declared.refusal.Shown.TheVariants.{ByMap}
 use Rattle.map_steps.specs.States.{Standing, View}
 use Rattle.map_steps.specs.Pairs.{pairs_each}
-use Rattle.map_steps.specs.ReadingFaults.{ReadingsFit}
 use Rattle.map_steps.specs.Steps.{Step, Answer, Ready, NoneBefore, laid, answer_none, answer_not_yet, answered}
-use Rattle.map_steps.specs.declared.reply.Reply.TheVariants as reply
+use Rattle.map_steps.specs.declared.reply.Done.TheVariants as done
 use Rattle.clutch_map.specs.Views.{masks_of, seen}
 use Rattle.clutch_map.specs.declared.map.Map.{Map}
-use Rattle.clutch_map.proofs.Seen.{masks_long, mask_of_record, some_force}
+use Rattle.clutch_map.proofs.Seen.{masks_long, mask_of_record}
 
 -- Corners of the same limits have one region.
 region_same : (p : Meaning) (θ : List ℤ) (X Y : CornerOf p) → HasSameLimits p X Y → Region p X θ → Region p Y θ
@@ -50,8 +48,8 @@ record_held p c cs k s records inside =
     (X, subst (λ (c : Shape). HoldsCorner p X (tableau_in c (corner cs k))) (sym s) holds, mask)
 
 -- The steps, once the readings fit and the tray is long enough; xs are the records as the look has them.
-module _ (m : Map) (θ tray : List ℤ) (es : List Exchange) (most : ℕ) (c : Shape) (s : c ≡ shape_of (meaning_of m.table)) (some : 0 < length (contents m.corners))
-    (fit : ReadingsFit (meaning_of m.table) θ) (wide : tray_size ≤ length tray) (xs : List Corner) (e : xs ≡ contents m.corners) where
+module _ (m : Map) (θ tray : List ℤ) (es : List Exchange) (most : ℕ) (c : Shape) (s : c ≡ shape_of (meaning_of m.table)) (ready : Ready (seen m tray es most) θ (record { kind = m.kind; meaning = meaning_of m.table }))
+    (xs : List Corner) (e : xs ≡ contents m.corners) where
   abbrev p : Meaning
   p = meaning_of m.table
 
@@ -64,19 +62,16 @@ module _ (m : Map) (θ tray : List ℤ) (es : List Exchange) (most : ℕ) (c : S
   abbrev standing : Standing
   standing = record { kind = m.kind; meaning = p }
 
-  ready : Ready v θ standing
-  ready = record { force = some_force cs m.kind p some; readings = fit; tray = wide }
-
   none : (k : ℕ) → k ≤ length cs → ((i : ℕ) → i < k → OutOfRegion c θ (corner xs i)) → NoneBefore v p θ k
   none k few out = none_before p c θ cs k s m.records few (λ i l. subst (λ xs. OutOfRegion c θ (corner xs i)) e (out i l))
 
   no_region : RegionAnswer c θ xs None → NoneBefore v p θ (length (masks_of cs))
   no_region out = none (length (masks_of cs)) (omega (arith, masks_long cs)) (λ i l. out i (omega (arith, masks_long cs, ap length e)))
 
-  pub none_step : RegionAnswer c θ xs None → (b : Bool) → b ≡ leb (length cs * pairs_each p) m.pairs → b ≡ true → Step v v (Answer θ) (reply.Refused (NoCommand ByMap))
+  pub none_step : RegionAnswer c θ xs None → (b : Bool) → b ≡ leb (length cs * pairs_each p) m.pairs → b ≡ true → Step v v (Answer θ) (Err (NoCommand ByMap))
   none_step out b is taken = answer_none standing ready (rw (masks_long cs) (leb-true (length cs * pairs_each p) m.pairs (sym is ∙ taken))) (no_region out) refl
 
-  pub not_yet_step : RegionAnswer c θ xs None → (b : Bool) → b ≡ leb (length cs * pairs_each p) m.pairs → b ≡ false → Step v v (Answer θ) (reply.Refused NotYet)
+  pub not_yet_step : RegionAnswer c θ xs None → (b : Bool) → b ≡ leb (length cs * pairs_each p) m.pairs → b ≡ false → Step v v (Answer θ) (Err NotYet)
   not_yet_step out b is left =
       let open_pairs : m.pairs < length cs * pairs_each p = leb-false (length cs * pairs_each p) m.pairs (sym is ∙ left) in
       answer_not_yet standing ready (λ f. let g : (length cs * pairs_each p) ≤ m.pairs = subst (λ n. (n * pairs_each p) ≤ m.pairs) (masks_long cs) f in omega arith) (no_region out) refl
@@ -92,7 +87,7 @@ module _ (m : Map) (θ tray : List ℤ) (es : List Exchange) (most : ℕ) (c : S
     pub region_some : SomeCorner c (tableau_in c (corner xs k))
     region_some = let (X, holds, mask) = region_corner in record { p = p; X = X; shape = s; holds = holds }
 
-    pub answered_step : (ys tray' : List ℤ) → CommandAnswer c θ (tableau_in c (corner xs k)) ys → tray' ≡ laid ys tray → Step v (seen m tray' es most) (Answer θ) (reply.Answer (record { mask = (corner xs k).mask; place = k }))
+    pub answered_step : (ys tray' : List ℤ) → CommandAnswer c θ (tableau_in c (corner xs k)) ys → tray' ≡ laid ys tray → Step v (seen m tray' es most) (Answer θ) (Ok (done.Answer (record { mask = (corner xs k).mask; place = k })))
     answered_step ys tray' C lays =
         let (X, holds, mask) = region_corner in
         answered standing X ys ready (omega (arith, inside, masks_long cs)) (ap (λ xs. (corner xs k).mask) e ∙ sym (mask_of_record cs k inside)) (sym mask) (R.1 p X s holds) (none k (omega (arith, inside)) R.2) (C p X s holds.held) (ap (λ t. seen m t es most) lays)

@@ -1,5 +1,5 @@
 -- From the pair that is due and what lies across it, to the step of a grow.
-use Rattle.std.proofs.Common.{◌≡◌, ℕ, ◌+◌, ◌/◌, ◌^◌, ◌<◌, true, false, List, [], ◌∷◌, ◌++◌, length, get_or, take, ℤ, Some, None, sym, refl, ap, ◌∙◌, subst, arith, length-append}
+use Rattle.std.proofs.Common.{◌≡◌, ℕ, ◌+◌, ◌/◌, ◌^◌, ◌<◌, true, false, List, [], ◌∷◌, ◌++◌, length, get_or, take, ℤ, Some, Ok, Err, sym, refl, ap, ◌∙◌, subst, arith, length-append}
 use mathlib.Core.List.{map-append}
 use Rattle.plant.specs.Meaning.{Meaning, shape_of}
 use Rattle.tableau.specs.Masks.{mask_of}
@@ -18,7 +18,8 @@ use Rattle.map_steps.specs.Pairs.{pairs_each, Due}
 use Rattle.map_steps.specs.States.{Standing, View}
 use Rattle.map_steps.specs.Steps.{Step, Grow, IsListed, PairAcross, with_state, examined, grow_known, grow_full, grow_wide, grown}
 use Rattle.map_steps.specs.declared.reply.Grown.TheVariants.{Nothing, Listed}
-use Rattle.map_steps.specs.declared.reply.Reply.TheVariants as reply
+use Rattle.map_steps.specs.declared.reply.Done.TheVariants as done
+use Rattle.rows.specs.declared.OutOfWidth.{OutOfWidth}
 use Rattle.working_tableau.specs.Crossings.{LeftAt, LeftAnswer, CrossAnswer}
 use Rattle.working_tableau.proofs.MasksAcross.{mask_there}
 use Rattle.clutch_map.specs.Listed.{AtFirst}
@@ -48,7 +49,7 @@ module _ (p : Meaning) (masks : List ℕ) (pairs j m : ℕ) (ws : List ℤ) (C :
   same_mask = mask_there p C.X (mask_of p C.X) refl j C.left C.leaves C.due.known C.due.outside m C.mask
 
   -- The record of the corner across.
-  pub new_record : (s : Shape) → s ≡ shape_of p → (after : List ℤ) → CrossAnswer s j ws (Some after) → Record p (record { mask = m; words = after })
+  pub new_record : (s : Shape) → s ≡ shape_of p → (after : List ℤ) → CrossAnswer s j ws (Ok after) → Record p (record { mask = m; words = after })
   new_record s counts after crossed =
       let (long, (left, gone)) = crossed p C.X counts C.holds in
       record_of p (record { mask = m; words = after }) gone.to long gone.holds (same_mask gone.row gone.to gone.leaves gone.across)
@@ -64,27 +65,27 @@ module _ (v w : View) (s : Standing) (force : v.state.force ≡ Some s) (j m : �
     not_listed : ¬ IsListed v m → ¬ IsListed v (mask_of s.meaning Y)
     not_listed n = subst (λ m. ¬ IsListed v m) mask_of_across n
 
-  pub known_step : IsListed v m → w ≡ with_state v (examined v v.state.masks) → Step v w Grow (reply.Grow Nothing)
+  pub known_step : IsListed v m → w ≡ with_state v (examined v v.state.masks) → Step v w Grow (Ok (done.Grow Nothing))
   known_step listed is =
       let (q, leaves, e) = C.leaves in
       let (Y, across) = leads s.meaning C.X j q C.due.known leaves in
       grow_known s j Y (pair_across q Y leaves across) (subst (IsListed v) (mask_of_across q Y leaves across) listed) is
 
   module _ (new : ¬ IsListed v m) where
-    pub full_step : length v.state.masks ≡ v.state.room → w ≡ v → Step v w Grow (reply.Refused (Full (j + 1)))
+    pub full_step : length v.state.masks ≡ v.state.room → w ≡ v → Step v w Grow (Err (Full (j + 1)))
     full_step full is =
         let (q, leaves, e) = C.leaves in
         let (Y, across) = leads s.meaning C.X j q C.due.known leaves in
         grow_full s j Y (pair_across q Y leaves across) (not_listed q Y leaves across new) full refl is
 
     module _ (room : length v.state.masks < v.state.room) (c : Shape) (counts : c ≡ shape_of s.meaning) where
-      pub wide_step : CrossAnswer c j ws None → w ≡ v → Step v w Grow (reply.Refused (Width (j + 1)))
-      wide_step crossed is =
+      pub wide_step : (e : OutOfWidth) → CrossAnswer c j ws (Err e) → w ≡ v → Step v w Grow (Err (Width (j + 1)))
+      wide_step e crossed is =
           let wide = crossed s.meaning C.X counts C.holds in
           let (Y, across) = leads s.meaning C.X j wide.row C.due.known wide.leaves in
           grow_wide s j Y (pair_across wide.row Y wide.leaves across) (not_listed wide.row Y wide.leaves across new) room (wide.out Y across) refl is
 
-      pub grown_step : (after : List ℤ) → CrossAnswer c j ws (Some after) → w ≡ with_state v (examined v (v.state.masks ++ m ∷ [])) → Step v w Grow (reply.Grow Listed)
+      pub grown_step : (after : List ℤ) → CrossAnswer c j ws (Ok after) → w ≡ with_state v (examined v (v.state.masks ++ m ∷ [])) → Step v w Grow (Ok (done.Grow Listed))
       grown_step after crossed is =
           let (long, (left, gone)) = crossed s.meaning C.X counts C.holds in
           let mask = mask_of_across gone.row gone.to gone.leaves gone.across in

@@ -1,5 +1,5 @@
-pub mod Faults
 pub mod Seen
+pub mod AskedSteps
 pub mod SolveSteps
 pub mod StartSteps
 pub mod AnswerSteps

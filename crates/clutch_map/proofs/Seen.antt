@@ -6,7 +6,7 @@ use Rattle.bounded_list.specs.Contents.{records, contents, room}
 use Rattle.clutch_map.specs.declared.map.Map.{Map}
 use Rattle.trays.specs.Trays.{tray_size}
 use Rattle.map_steps.specs.Pairs.{pairs_each}
-use Rattle.map_steps.specs.States.{View}
+use Rattle.map_steps.specs.States.{Standing, View}
 use Rattle.map_steps.specs.Steps.{IsNotBegun, Startable}
 use Rattle.plant.specs.Meaning.{Meaning, shape_of}
 use Rattle.plant_table.specs.Tabled.{meaning_of}
@@ -33,6 +33,11 @@ mask_of_record (c ∷ cs) (suc k) h = mask_of_record cs k (omega arith)
 pub some_force : (cs : List Corner) (k : ℕ) (p : Meaning) → 0 < length cs → in_force cs k p ≡ Some (record { kind = k; meaning = p })
 some_force [] k p h = absurd (omega arith)
 some_force (c ∷ cs) k p h = refl
+
+-- A plant in force has a corner.
+pub some_listed : (cs : List Corner) (k : ℕ) (p : Meaning) (s : Standing) → in_force cs k p ≡ Some s → 0 < length cs
+some_listed [] k p s e = let z : ◌≡◌ {A = ℕ} 0 1 = cc in absurd (omega arith)
+some_listed (c ∷ cs) k p s e = omega arith
 
 -- The first corner, in its record and in the working tableau.
 module _ (p : Meaning) (cs : List Corner) (ws : List ℤ) (records : AllRecords p cs) (first : AtFirst cs ws) (some : 0 < length cs) where

@@ -9,7 +9,7 @@ use Rattle.plant.specs.Meaning.{Meaning}
 use Rattle.words.specs.declared.refusal.Refusal.{Refusal}
 use Rattle.map_steps.specs.States.{View}
 use Rattle.map_steps.specs.Steps.{Step, Start, to_start, Startable, with_tray, begun, started, start_wide, start_no_best}
-use Rattle.map_steps.specs.declared.reply.Started.{Started}
+use Rattle.map_steps.specs.declared.reply.Reached.{Reached}
 use Rattle.working_tableau.specs.Starts.{FirstCorner, found, no_best, wide}
 
 -- A refused start leaves all but the tray.
@@ -17,7 +17,7 @@ refused_at : (v w : View) (k : ℕ) (p : Meaning) (ws tray : List ℤ) (e : Refu
 refused_at v w k p ws tray e ready (no_best made Y run ended left lays) q = start_no_best made Y ready run ended left (q ∙ ap (with_tray v) lays)
 refused_at v w k p ws tray e ready (wide made j Y run beyond place same) q = start_wide made j Y ready run beyond place (q ∙ ap (with_tray v) same)
 
-started_at : (v w : View) (k : ℕ) (p : Meaning) (ws tray : List ℤ) (a : Started) → Startable v → FirstCorner p ws v.tray tray (Ok a) → w ≡ record { state = begun v (record { kind = k; meaning = p }) a.mask; tray = tray; trail = v.trail; trail_room = v.trail_room } → Step v w (Start k p) (to_start (Ok a))
+started_at : (v w : View) (k : ℕ) (p : Meaning) (ws tray : List ℤ) (a : Reached) → Startable v → FirstCorner p ws v.tray tray (Ok a) → w ≡ record { state = begun v (record { kind = k; meaning = p }) a.mask; tray = tray; trail = v.trail; trail_room = v.trail_room } → Step v w (Start k p) (to_start (Ok a))
 started_at v w k p ws tray a ready (found Y X run ended same holds mask untouched) q =
     started Y X ready run ended same holds.in_width mask (q ∙ ap (λ t. record { state = begun v (record { kind = k; meaning = p }) a.mask; tray = t; trail = v.trail; trail_room = v.trail_room }) untouched)
 
@@ -25,11 +25,11 @@ started_at v w k p ws tray a ready (found Y X run ended same holds mask untouche
 pub refused_step : (v w : View) (k : ℕ) (p q : Meaning) → p ≡ q → (ws tray : List ℤ) (e : Refusal) → Startable v → FirstCorner p ws v.tray tray (Err e) → w ≡ with_tray v tray → Step v w (Start k q) (to_start (Err e))
 refused_step v w k p q same ws tray e ready F is = subst (λ q. Step v w (Start k q) (to_start (Err e))) same (refused_at v w k p ws tray e ready F is)
 
-pub started_step : (v w : View) (k : ℕ) (p q : Meaning) → p ≡ q → (ws tray : List ℤ) (a : Started) → Startable v → FirstCorner p ws v.tray tray (Ok a) → w ≡ record { state = begun v (record { kind = k; meaning = p }) a.mask; tray = tray; trail = v.trail; trail_room = v.trail_room } → Step v w (Start k q) (to_start (Ok a))
+pub started_step : (v w : View) (k : ℕ) (p q : Meaning) → p ≡ q → (ws tray : List ℤ) (a : Reached) → Startable v → FirstCorner p ws v.tray tray (Ok a) → w ≡ record { state = begun v (record { kind = k; meaning = p }) a.mask; tray = tray; trail = v.trail; trail_room = v.trail_room } → Step v w (Start k q) (to_start (Ok a))
 started_step v w k p q same ws tray a ready F is = subst (λ q. Step v w (Start k q) (to_start (Ok a))) same (started_at v w k p ws tray a ready F is)
 
 -- The corner that was found.
-pub found_corner : (p : Meaning) (ws tray tray' : List ℤ) (a : Started) → FirstCorner p ws tray tray' (Ok a) → (X : CornerOf p) × HoldsCorner p X ws × (a.mask ≡ mask_of p X)
+pub found_corner : (p : Meaning) (ws tray tray' : List ℤ) (a : Reached) → FirstCorner p ws tray tray' (Ok a) → (X : CornerOf p) × HoldsCorner p X ws × (a.mask ≡ mask_of p X)
 found_corner p ws tray tray' a (found Y X run ended same holds mask untouched) = (X, holds, mask)
 
 -- Without a corner no plant is in force, whatever the table holds.

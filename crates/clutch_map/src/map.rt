@@ -11,8 +11,10 @@ use plant_table::table::Table;
 use tableau_words::size::MOST_WORDS;
 
 mod answers;
+mod asked;
 mod grows;
 mod opens;
+mod pairs;
 mod solves;
 mod starts;
 
@@ -20,14 +22,14 @@ mod starts;
 pub const MOST_RECORDS: usize = 256;
 
 // The listed corners; the numbers and the kind of the plant in force; the working tableau, which is that of the first corner between
-// calls; and how many pairs have been examined.
+// calls, in an array, since the library has no heap; and how many pairs have been examined.
 #[derive(Drop)]
 pub struct Map<'a> {
     corners: List<'a, Corner>,
     table: Table,
     kind: u16,
     words: [i64; MOST_WORDS],
-    pairs: u32,
+    pairs: usize,
     ghost few: { room corners ≤ most_records },
     ghost records: { AllRecords (meaning_of table) (contents corners) },
     ghost first: { AtFirst (contents corners) words },

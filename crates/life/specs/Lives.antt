@@ -6,7 +6,7 @@ use Rattle.trays.specs.Trays.{tray_size}
 use Rattle.map_steps.specs.States.{Standing, View}
 use Rattle.map_steps.specs.Steps.{Call, Step}
 use Rattle.map_steps.specs.Steps as call
-use Rattle.map_steps.specs.declared.reply.Reply.{Reply}
+use Rattle.map_steps.specs.Replies.{Reply}
 use Rattle.promises.specs.Promises.{Moment, AllKept}
 use Rattle.promises.specs.Histories.{opened}
 use Rattle.clutch_map.specs.Listed.{most_records}

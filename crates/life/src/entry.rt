@@ -2,7 +2,7 @@
 use map_steps::reply::Reply;
 use trays::tray::TRAY;
 
-// The reply, and the first numbers of the tray after the call.
+// The reply, and the first numbers of the tray after the call, in an array, since the library has no heap.
 #[derive(Clone, Copy)]
 pub struct Entry {
     pub reply: Reply,

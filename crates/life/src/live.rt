@@ -12,7 +12,7 @@ use bounded_list::List;
 use clutch_map::map::Map;
 use corner_list::corner::Corner;
 use corner_runs::exchanges::Exchange;
-use map_steps::reply::Reply;
+use map_steps::reply::{Done, Reply};
 use trays::tray::TRAY;
 
 // The first numbers of the tray, with zeros after them where the tray is shorter.
@@ -21,7 +21,7 @@ fn shown(tray: &[i64]) -> [i64; TRAY]
 {
     let mut first = [0; TRAY];
     let n = tray.len().min(TRAY);
-    first[0..n].copy_from_slice(&tray[0..n]);
+    first[..n].copy_from_slice(&tray[..n]);
     first
 }
 
@@ -31,9 +31,7 @@ fn makes_sense<S: Shelf>(shelf: &S, order: Order<'_>) -> bool
 {
     match order {
         Order::Start(place, _) => shelf.has(place),
-        Order::Solve(_, _, _) => true,
-        Order::Grow => true,
-        Order::Answer(_, _) => true,
+        Order::Solve(..) | Order::Grow | Order::Answer(..) => true,
     }
 }
 
@@ -51,31 +49,20 @@ fn carry_out<S: Shelf>(
     match order {
         Order::Start(place, lent) => {
             let n = lent.min(tray.len());
-            match shelf.start(place, map, &mut tray[0..n]) {
-                Some(Ok(started)) => Reply::Start(started),
-                Some(Err(refusal)) => Reply::Refused(refusal),
-                None => unreachable!(),
-            }
+            let started = shelf.start(place, map, &mut tray[..n]).unwrap();
+            started.map(Done::Start)
         }
         Order::Solve(reading, lent, notes) => {
             let n = lent.min(tray.len());
             let l = notes.min(trail.len());
-            let mut noted = List::new(&mut trail[0..l]);
-            match map.solve(reading, &mut tray[0..n], &mut noted) {
-                Ok(solved) => Reply::Solve(solved),
-                Err(refusal) => Reply::Refused(refusal),
-            }
+            let mut noted = List::new(&mut trail[..l]);
+            map.solve(reading, &mut tray[..n], &mut noted)
+                .map(Done::Solve)
         }
-        Order::Grow => match map.grow() {
-            Ok(grown) => Reply::Grow(grown),
-            Err(refusal) => Reply::Refused(refusal),
-        },
+        Order::Grow => map.grow().map(Done::Grow),
         Order::Answer(reading, lent) => {
             let n = lent.min(tray.len());
-            match map.answer(reading, &mut tray[0..n]) {
-                Ok(answered) => Reply::Answer(answered),
-                Err(refusal) => Reply::Refused(refusal),
-            }
+            map.answer(reading, &mut tray[..n]).map(Done::Answer)
         }
     }
 }
@@ -93,18 +80,19 @@ pub fn live<S: Shelf>(
     ensures { Lived (S.Shelf.plants shelf.now) orders.now (length records.old) tray.old tray.new (length trail.old) log.old log.new result }
 {
     let mut map = Map::open(records);
-    for k in 0..orders.len() {
-        if k >= log.len() {
+    // By the log alone, with its place: after a zip with the orders nothing would be known of the log.
+    for (k, entry) in log.iter_mut().enumerate() {
+        let Some(order) = orders.get(k) else {
+            return k;
+        };
+        if !makes_sense(shelf, *order) {
             return k;
         }
-        if !makes_sense(shelf, orders[k]) {
-            return k;
-        }
-        let reply = carry_out(shelf, orders[k], &mut map, tray, trail);
-        log[k] = Entry {
+        let reply = carry_out(shelf, *order, &mut map, tray, trail);
+        *entry = Entry {
             reply,
             tray: shown(tray),
         };
     }
-    orders.len()
+    log.len()
 }

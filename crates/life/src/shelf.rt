@@ -7,7 +7,7 @@ ghost use Rattle.map_steps.specs.Steps.{Step, Start as Starts, to_start};
 ghost use Rattle.clutch_map.specs.Views.{seen};
 
 use clutch_map::map::Map;
-use map_steps::reply::Started;
+use map_steps::reply::Reached;
 use plant::interface::Plant;
 use words::refusal::Refusal;
 
@@ -26,7 +26,7 @@ pub trait Shelf {
         place: usize,
         map: &mut Map<'_>,
         tray: &mut [i64],
-    ) -> Option<Result<Started, Refusal>>
+    ) -> Option<Result<Reached, Refusal>>
         ensures absent { IfNone result (length (plants self.now) ≤ place) }
         ensures present { IfSome result (λ _. place < length (plants self.now)) }
         ensures untouched { IfNone result ((es : List Noted) (most : ℕ) → seen map.new tray.new es most ≡ seen map.old tray.old es most) }
@@ -49,7 +49,7 @@ impl Shelf for Empty {
         _place: usize,
         _map: &mut Map<'_>,
         _tray: &mut [i64],
-    ) -> Option<Result<Started, Refusal>> {
+    ) -> Option<Result<Reached, Refusal>> {
         None
     }
 }
@@ -73,7 +73,7 @@ impl<P: Plant, S: Shelf> Shelf for Beside<P, S> {
         place: usize,
         map: &mut Map<'_>,
         tray: &mut [i64],
-    ) -> Option<Result<Started, Refusal>> {
+    ) -> Option<Result<Reached, Refusal>> {
         if place == 0 {
             Some(map.start(&self.plant, tray))
         } else {

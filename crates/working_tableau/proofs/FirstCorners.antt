@@ -1,5 +1,5 @@
 -- From the end of a search to what a start comes to.
-use Rattle.std.proofs.Common.{◌≡◌, ℕ, ◌+◌, ◌-◌, ◌<◌, ◌≤◌, List, ℤ, pos, ◌-ℤ◌, ◌*ℤ◌, ◌≤ℤ◌, ◌<ℤ◌, Result, sym, refl, ap, ◌∙◌, subst, arith}
+use Rattle.std.proofs.Common.{◌≡◌, ℕ, ◌+◌, ◌-◌, ◌<◌, ◌≤◌, List, ℤ, pos, ◌-ℤ◌, ◌*ℤ◌, ◌≤ℤ◌, ◌<ℤ◌, Ok, Err, Result, sym, refl, ap, ◌∙◌, subst, arith}
 use Rattle.std.proofs.lemmas.Int.{ints}
 use Rattle.std.proofs.lemmas.Bool.{eq-eqb, ne_eqb, le-leb, lt-leb}
 use Rattle.exact.specs.Bounds.{InWidth}
@@ -17,12 +17,11 @@ use Rattle.tableau_words.specs.Layout.{row_width}
 use Rattle.tableau_words.proofs.Rewritten.{by_column}
 use Rattle.corner_words.specs.Reads.{OwnLimits}
 use Rattle.corner_runs.specs.Answers.{HoldsCorner, HoldsSearch, SomeSearch, StartEndedAt, SearchFrom, SearchAnswer}
-use Rattle.corner_runs.specs.declared.search.StartEnd.{StartEnd}
-use Rattle.corner_runs.specs.declared.search.StartEnd.TheVariants.{Ended, OutOfWidth}
+use Rattle.corner_runs.specs.declared.search.OutOfWidthAt.{OutOfWidthAt}
 use Rattle.corner_runs.specs.declared.search.Searched.{Searched}
 use Rattle.first_tableau.specs.First.{HoldsFirst}
 use Rattle.map_steps.specs.Steps.{SameBasis, SearchTo}
-use Rattle.map_steps.specs.declared.reply.Started.{Started}
+use Rattle.map_steps.specs.declared.reply.Reached.{Reached}
 use Rattle.working_tableau.specs.Starts.{SomeArtificial, KeptSearch, SearchUnless, unbounded, corner, StartConcluded, StartConclusion, FirstCorner, found, no_best, wide}
 
 -- Within the plant's limits, the columns are the plant's own.
@@ -95,23 +94,23 @@ module _ (c : Shape) (p : Meaning) (s : c ≡ shape_of p) (ws : List ℤ) where
     searched : SearchFrom p F.corner after r
     searched = A p F.corner s (record { held = F.held; in_width = F.in_width })
 
-    kept : (Y : SearchCorner p) (e : StartEnd) → StartEndedAt p Y after e → KeptSearch c after e
-    kept Y Ended E = record { p = p; X = Y; shape = s; holds = E.1 }
-    kept Y (OutOfWidth j) E = rw s E.least.known
+    kept : (Y : SearchCorner p) (e : Result Unit OutOfWidthAt) → StartEndedAt p Y after e → KeptSearch c after e
+    kept Y (Ok u) E = record { p = p; X = Y; shape = s; holds = E.1 }
+    kept Y (Err j) E = rw s E.least.known
 
     pub search_kept : KeptSearch c after r.end
     search_kept = kept searched.at r.end searched.ended
 
-    there : (Y : SearchCorner p) (e : StartEnd) → StartEndedAt p Y after e → SearchUnless p Y after e
-    there Y Ended E = E.1
-    there Y (OutOfWidth j) E = tt
+    there : (Y : SearchCorner p) (e : Result Unit OutOfWidthAt) → StartEndedAt p Y after e → SearchUnless p Y after e
+    there Y (Ok u) E = E.1
+    there Y (Err j) E = tt
 
     -- The search, its end and what was told, together.
     module _ (tray tray' : List ℤ) where
-      told : (x : Result Started Refusal) (Y : SearchCorner p) → SearchTo p r.exchanges Y → (e : StartEnd) → StartEndedAt p Y after e → StartConcluded p Y after tray tray' r.exchanges x e → FirstCorner p after tray tray' x
-      told x Y run Ended E (unbounded left laid) = no_best r.exchanges Y run E.0 left laid
-      told x Y run Ended E (corner {a} X same holds mask made untouched) = found Y X (subst (λ k. SearchTo p k Y) (sym made) run) E.0 same holds mask untouched
-      told x Y run (OutOfWidth j) E (is, untouched) = subst (FirstCorner p after tray tray') (sym is) (wide r.exchanges j Y run E refl untouched)
+      told : (x : Result Reached Refusal) (Y : SearchCorner p) → SearchTo p r.exchanges Y → (e : Result Unit OutOfWidthAt) → StartEndedAt p Y after e → StartConcluded p Y after tray tray' r.exchanges x e → FirstCorner p after tray tray' x
+      told x Y run (Ok u) E (unbounded left laid) = no_best r.exchanges Y run E.0 left laid
+      told x Y run (Ok u) E (corner {a} X same holds mask made untouched) = found Y X (subst (λ k. SearchTo p k Y) (sym made) run) E.0 same holds mask untouched
+      told x Y run (Err j) E (is, untouched) = subst (FirstCorner p after tray tray') (sym is) (wide r.exchanges j.0 Y run E refl untouched)
 
-      pub first_told : (x : Result Started Refusal) → StartConclusion c after tray tray' r x → FirstCorner p after tray tray' x
+      pub first_told : (x : Result Reached Refusal) → StartConclusion c after tray tray' r x → FirstCorner p after tray tray' x
       first_told x C = told x searched.at (record { first = F.corner; artificial = F.artificial; run = searched.run }) r.end searched.ended (C p searched.at s (there searched.at r.end searched.ended))

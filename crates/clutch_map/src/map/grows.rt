@@ -10,6 +10,7 @@ use corner_list::lists::lists;
 use corner_list::outside::outside;
 use map_steps::reply::Grown;
 use tableau_words::size::tableau_size;
+use tableau_words::view::Tableau;
 use words::refusal::Refusal;
 use working_tableau::crossing::{cross, left_by, mask_across};
 
@@ -24,17 +25,12 @@ impl Map<'_> {
         if self.is_finished() {
             return Ok(Grown::Finished);
         }
-        let shape = self.table.shape();
-        let each = shape.limits - shape.commands;
-        let due = self.pairs as usize;
-        let Some(corner) = self.corners.get(due / each) else {
-            unreachable()
-        };
-        let Some(limit) = outside(corner.mask, shape.limits, due % each) else {
-            unreachable()
-        };
-        let size = tableau_size(shape);
-        let Some(left) = left_by(&corner.words[0..size], shape, limit) else {
+        let counts = self.table.counts();
+        let each = self.pairs_each();
+        let corner = self.corners.get(self.pairs / each).unwrap();
+        let limit = outside(corner.mask, counts.shape().limits, self.pairs % each).unwrap();
+        let words = &corner.words[..tableau_size(counts)];
+        let Some(left) = left_by(Tableau { counts, words }, limit) else {
             self.pairs += 1;
             return Ok(Grown::Nothing);
         };
@@ -46,12 +42,10 @@ impl Map<'_> {
         if self.corners.is_full() {
             return Err(Refusal::Full(limit + 1));
         }
-        let Some(words) = cross(&mut self.words, &corner.words, shape, limit) else {
+        let Ok(words) = cross(&mut self.words, &corner.words, counts, limit) else {
             return Err(Refusal::Width(limit + 1));
         };
-        let Ok(()) = self.corners.push(Corner { mask, words }) else {
-            unreachable()
-        };
+        self.corners.push(Corner { mask, words }).unwrap();
         self.pairs += 1;
         Ok(Grown::Listed)
     }

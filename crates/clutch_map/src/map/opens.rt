@@ -16,7 +16,7 @@ impl<'a> Map<'a> {
     {
         let used = records.len().min(MOST_RECORDS);
         Map {
-            corners: List::new(&mut records[0..used]),
+            corners: List::new(&mut records[..used]),
             table: Table::blank(),
             kind: 0,
             words: [0; MOST_WORDS],

@@ -6,7 +6,7 @@ ghost use Rattle.clutch_map.specs.Views.{seen};
 
 use super::Map;
 use corner_list::corner::Corner;
-use map_steps::reply::Started;
+use map_steps::reply::Reached;
 use plant::interface::Plant;
 use plant_table::table::Table;
 use trays::tray::TRAY;
@@ -15,7 +15,7 @@ use working_tableau::starting::find_first;
 
 impl Map<'_> {
     // Takes the plant's numbers into the map and lists its first corner.
-    pub fn start<P: Plant>(&mut self, plant: &P, tray: &mut [i64]) -> Result<Started, Refusal>
+    pub fn start<P: Plant>(&mut self, plant: &P, tray: &mut [i64]) -> Result<Reached, Refusal>
         ensures { (es : List Noted) (most : ℕ) → Step (seen self.old tray.old es most) (seen self.new tray.new es most) (Start P.Plant.kind (P.Plant.meaning plant.now)) (to_start result) }
     {
         if !self.corners.is_empty() {
@@ -30,14 +30,11 @@ impl Map<'_> {
         self.table = Table::of(plant);
         self.kind = P::kind_number();
         let started = find_first(&self.table, &mut self.words, tray)?;
-        let words = self.words;
-        let Ok(()) = self.corners.push(Corner {
+        let corner = Corner {
             mask: started.mask,
-            words,
-        })
-        else {
-            unreachable()
+            words: self.words,
         };
+        self.corners.push(corner).unwrap();
         self.pairs = 0;
         Ok(started)
     }

@@ -5,6 +5,8 @@ use Rattle.life.proofs.live.live.Given as goal
 
 -- The life so far; the rest of the log is as it was.
 abbrev pub invariant-loop-k : goal.invariant-loop-k
-invariant-loop-k g l =
-    Living (g.S.Shelf.plants l.shelf) l.orders (seen l.initial.map l.initial.tray [] (length l.initial.trail)) l.k l.log (seen l.map l.tray [] (length l.initial.trail))
-    × (l.k ≤ length l.log) × (drop l.k l.log ≡ drop l.k l.initial.log)
+invariant-loop-k g l = record {
+  life : Living (g.S.Shelf.plants l.shelf) l.orders (seen l.initial.map l.initial.tray [] (length l.initial.trail)) l.k l.log (seen l.map l.tray [] (length l.initial.trail));
+  few : l.k ≤ length l.orders;
+  rest : drop l.k l.log ≡ drop l.k l.initial.log;
+}

@@ -8,23 +8,20 @@ use Rattle.plant_table.specs.Tabled.{meaning_of}
 use Rattle.working_tableau.proofs.starting.find_first.Goals as goal
 
 pub search-searched-requires : goal.search-searched-requires
-search-searched-requires c = record { counts = c.shape-shape.ensures.bounds; corner = first_kept c.shape-shape.result (meaning_of c.args.table.now) c.shape-shape.ensures.counts c.fill.new.words c.fill.ensures }
+search-searched-requires c = first_kept c.counts-counts.result.shape (meaning_of c.args.table.now) c.counts-counts.ensures c.fill.new.words c.fill.ensures
 
-pub conclude_start-requires : goal.conclude_start-requires
-conclude_start-requires c = record {
-  counts = c.shape-shape.ensures.bounds;
-  corner = search_kept c.shape-shape.result (meaning_of c.args.table.now) c.shape-shape.ensures.counts c.fill.new.words c.fill.ensures c.search-searched.new.words c.search-searched.result c.search-searched.ensures;
-  tray = c.requires.tray;
-}
+pub conclude_start-requires-clause-corner : goal.conclude_start-requires-clause-corner
+conclude_start-requires-clause-corner c = search_kept c.counts-counts.result.shape (meaning_of c.args.table.now) c.counts-counts.ensures c.fill.new.words c.fill.ensures c.search-searched.new.words c.search-searched.result c.search-searched.ensures
 
 pub returns : goal.returns
 returns c =
     let p = meaning_of c.args.table.now in
+    let s = c.counts-counts.result.shape in
     let after = c.search-searched.new.words in
     let long : length after ≡ size (shape_of p) = c.search-searched.auto.words ∙ c.fill.ensures.held.long in
-    let told = first_told c.shape-shape.result p c.shape-shape.ensures.counts c.fill.new.words c.fill.ensures after c.search-searched.result c.search-searched.ensures c.args.tray.now c.conclude_start.new.tray c.conclude_start.result c.conclude_start.ensures in
+    let told = first_told s p c.counts-counts.ensures c.fill.new.words c.fill.ensures after c.search-searched.result c.search-searched.ensures c.args.tray.now c.conclude_start.new.tray c.conclude_start.result c.conclude_start.ensures in
     let ws = c.args.words.now in
-    let used : c.tableau_size-size.result ≡ size (shape_of p) = c.tableau_size-size.ensures.value ∙ ap size c.shape-shape.ensures.counts in
+    let used : c.tableau_size-size.result ≡ size (shape_of p) = c.tableau_size-size.ensures.value ∙ ap size c.counts-counts.ensures in
     record {
       long = length-append after (drop (c.tableau_size-size.result - 0) ws) ∙ omega (arith, length-drop (c.tableau_size-size.result - 0) ws, c.told-words, c.tableau_size-size.ensures.most);
       corner = subst (λ ws. FirstCorner p ws c.args.tray.now c.conclude_start.new.tray c.conclude_start.result) (sym (take_at after _ (size (shape_of p)) long)) told;

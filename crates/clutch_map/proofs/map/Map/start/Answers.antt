@@ -45,10 +45,10 @@ invariant_of-self-2 g c =
     let p = meaning_of c.of-self.result in
     let none = unlisted self c.is_empty.result c.is_empty.ensures c.if-not-is_empty.false in
     let r : Corner = record { mask = c.in_ok-started.started.mask; words = c.find_first.new.words } in
-    let e = only (contents self.corners) (contents c.push.new.self) r none c.in-Ok.ensures.cases.1 in
+    let e = only (contents self.corners) (contents c.push.new.self) r none (rw c.unwrap.ensures at c.push.ensures.cases).1 in
     let (X, holds, mask) = found_corner p _ _ _ _ c.in_ok-started.ensures.corner in
     record {
-      few = rw c.in-Ok.ensures.room self.few;
+      few = rw c.push.ensures.room self.few;
       records = subst (AllRecords p) (sym e) (all_records_push p [] r (all_records_none p) (record_of p r X c.in_ok-started.ensures.long holds mask));
       first = subst (λ cs. AtFirst cs c.find_first.new.words) (sym e) (λ h. refl);
     }
@@ -63,6 +63,6 @@ returns g c = λ es most.
     let full = eqb-false (length cs) (room self.corners) (sym c.is_full.ensures ∙ c.if-is_full.false) in
     let ready = startable v (masks_long cs ∙ none) c.if-tray-lt-TRAY.false (λ z. full (none ∙ sym z)) in
     let r : Corner = record { mask = c.in_ok-started.started.mask; words = c.find_first.new.words } in
-    let e = only cs (contents c.push.new.self) r none c.in-Ok.ensures.cases.1 in
+    let e = only cs (contents c.push.new.self) r none (rw c.unwrap.ensures at c.push.ensures.cases).1 in
     started_step v _ g.P.Plant.kind p _ c.of-self.ensures _ c.find_first.new.tray c.in_ok-started.started ready c.in_ok-started.ensures.corner
-    (ap (λ (s : State). record { state = s; tray = c.find_first.new.tray; trail = es; trail_room = most }) (begun_state v (contents c.push.new.self) r c.kind_number-self.result g.P.Plant.kind (room c.push.new.self) p p e c.kind_number-self.ensures refl c.in-Ok.ensures.room))
+    (ap (λ (s : State). record { state = s; tray = c.find_first.new.tray; trail = es; trail_room = most }) (begun_state v (contents c.push.new.self) r c.kind_number-self.result g.P.Plant.kind (room c.push.new.self) p p e c.kind_number-self.ensures refl c.push.ensures.room))

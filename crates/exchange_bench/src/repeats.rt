@@ -7,7 +7,7 @@ ghost use Rattle.tableau_words.specs.Layout.{number_at, limit_column};
 use crate::corners::SIZE;
 use rows::OutOfWidth;
 use tableau_words::exchange::exchange;
-use words::counts::Shape;
+use words::counts::{Counts, Shape};
 
 const SHAPE: Shape = Shape {
     commands: 4,
@@ -26,10 +26,12 @@ pub fn repeat(
     requires widths { AllInWidth corner.now }
     requires positive { (pos 0 <ℤ entries corner.now 0) × (pos 0 <ℤ number_at (record { commands = 4; limits = 16; readings = 3 }) corner.now row (limit_column (record { commands = 4; limits = 16; readings = 3 }) limit)) }
 {
+    let counts = Counts::new(SHAPE).unwrap();
     let mut sum = 0i64;
+    // The count also says which word is summed.
     for k in 0..count {
         let mut words = *corner;
-        exchange(&mut words, SHAPE, row, limit)?;
+        exchange(&mut words, counts, row, limit)?;
         sum = sum.wrapping_add(words[k % SIZE]);
     }
     Ok(sum)

@@ -1,5 +1,5 @@
 -- The parts that the program cuts from its words are those that the definitions name.
-use Rattle.std.proofs.Common.{◌≡◌, ℕ, ◌+◌, ◌-◌, ◌*◌, ◌≤◌, List, length, get_or, take, drop, ℤ, pos, sym, ap, ◌∙◌, subst, arith, length-drop, length-take}
+use Rattle.std.proofs.Common.{Ok, Err, OnOk, Result, ◌≡◌, ℕ, ◌+◌, ◌-◌, ◌*◌, ◌≤◌, List, length, get_or, take, drop, ℤ, pos, sym, ap, ◌∙◌, subst, arith, length-drop, length-take}
 use Rattle.std.proofs.lemmas.List.{get_or-take, get_or-drop}
 use Rattle.words.specs.Bounds.{most_commands}
 use Rattle.words.specs.Faults.{Faulty}
@@ -10,7 +10,9 @@ use Rattle.plant.specs.Meaning.{Meaning, Bounded}
 use Rattle.plant.specs.Described.{Describes}
 use Rattle.plant.specs.Written.{said}
 use Rattle.input.specs.Split.{most_range_words, RangeFollows, RangeWords, Payloads}
-use Rattle.input.specs.Judged.{RangesAre}
+use Rattle.plant.specs.Ranged.{RangeAnswer}
+use Rattle.plant.specs.declared.range_table.RangeTable.{RangeTable}
+use Rattle.input.specs.Judged.{RangesAre, TableVerdict, wrong_range}
 
 whole : (ws : List ℕ) (n : ℕ) → take (n - 0) ws ≡ take n ws
 whole ws n = ap (λ k. take k ws) (omega arith)
@@ -52,3 +54,19 @@ ranges_are ws n m p zs B F e R N L =
       low_payloads = subst (λ k. Payloads ws n k (take (m - 0) zs)) e (low_numbers ws n m zs L few N);
       high_payloads = subst (λ k. Payloads ws (n + k) k (take (2 * m - m) (drop m zs))) e (high_numbers ws n m zs L few N);
     }
+
+-- What range answers of them.
+pub table_told : (ws : List ℕ) (n : ℕ) (p : Meaning) (lows highs : List ℤ) → RangesAre ws n p lows highs → (r : Result RangeTable Refusal) → RangeAnswer p lows highs r → TableVerdict ws n p r
+table_told ws n p lows highs R (Ok t) a = (lows, highs, R, a.0, a.1)
+table_told ws n p lows highs R (Err e) a = wrong_range lows highs R a
+
+-- Words are there for all of them.
+pub ranges_within : (ws : List ℕ) (n : ℕ) (p : Meaning) → Bounded p → RangeWords ws n (2 * length p.gains) → n + 2 * length p.gains ≤ length ws
+ranges_within ws n p B R =
+    let m = length p.gains in
+    let last = R (2 * m - 1) (omega (arith, B.counted.0)) in
+    omega (arith, last.0, B.counted.0)
+
+pub on_ok : {A E : Type 0} {P : Type 0} (r : Result A E) → P → OnOk r P
+on_ok (Ok a) h = h
+on_ok (Err e) h = tt

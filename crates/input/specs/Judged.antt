@@ -5,6 +5,8 @@ use Rattle.words.specs.declared.counts.Shape.{Shape}
 use Rattle.words.specs.declared.refusal.Refusal.{Refusal}
 use Rattle.plant.specs.Meaning.{Meaning, shape_of}
 use Rattle.plant.specs.Described.{Describes}
+use Rattle.plant.specs.Ranged.{ranged_by}
+use Rattle.plant.specs.declared.range_table.RangeTable.{RangeTable}
 use Rattle.plant.specs.Ranges.{with_ranges, RangesFit, RangeFaulty}
 use Rattle.input.specs.Split.{PlantEnds, RangeFollows, RangeWords, RangeWordsFaulty, Payloads}
 
@@ -25,6 +27,12 @@ module _ (ws : List ℕ) (n : ℕ) where
     wrong_words : {e : Refusal} → RangeFollows ws n → RangeWordsFaulty ws n (2 * length p.gains) e → RangeVerdict p (Err e)
     wrong_range : {e : Refusal} (lows highs : List ℤ) → RangesAre p lows highs → RangeFaulty lows highs (shape_of p) e → RangeVerdict p (Err e)
     ranged : {c : Shape} (lows highs : List ℤ) → RangesAre p lows highs → RangesFit lows highs (shape_of p) → c ≡ shape_of (with_ranges p lows highs) → RangeVerdict p (Ok c)
+
+  -- What comes of the range words after a plant: a table with which the ranged plant over it is the plant with these ranges, or what is
+  -- wrong with the range words or with the range.
+  abbrev pub TableVerdict : Meaning → Result RangeTable Refusal → Type 0
+  TableVerdict p (Ok t) = (lows : List ℤ) × (highs : List ℤ) × RangesAre p lows highs × RangesFit lows highs (shape_of p) × (ranged_by t p ≡ with_ranges p lows highs)
+  TableVerdict p (Err e) = RangeVerdict p (Err e)
 
   -- What comes of the first n words as a plant.
   pub data PlantVerdict : Result Shape Refusal → Type 0 where

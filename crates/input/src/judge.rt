@@ -1,26 +1,31 @@
 // The plant that the input describes.
-ghost use Rattle.std.specs.Prelude.{◌≡◌};
-ghost use Rattle.plant.specs.Meaning.{shape_of as counts_of};
-ghost use Rattle.input.specs.Judged.{Judged};
+ghost use Rattle.std.specs.Prelude.{◌+◌, ◌*◌, ◌≤◌, length, OnOk};
+ghost use Rattle.input.specs.Split.{RangeFollows};
+ghost use Rattle.input.specs.Judged.{TableVerdict, Judged};
 
 use crate::split::{plant_end, range_follows, range_numbers};
 use plant::interface::Plant;
 use plant::load::load;
 use plant::range::range;
+use plant::range_table::RangeTable;
 use plant::ranged::Ranged;
 use plant::written::Written;
 use words::counts::Shape;
 use words::refusal::Refusal;
 
-// The counts of a plant.
-pub fn shape_of<P: Plant>(plant: &P) -> Shape
-    ensures { result ≡ counts_of (P.Plant.meaning plant.now) }
+// The lows and highs behind the words of a plant, judged for the plant.
+pub fn ranges<P: Plant>(words: &[u32], end: usize, plant: &P) -> Result<RangeTable, Refusal>
+    requires { end ≤ length words.now }
+    ensures verdict { RangeFollows words.now end → TableVerdict words.now end (P.Plant.meaning plant.now) result }
+    ensures within { OnOk result (end + 2 * length (P.Plant.meaning plant.now).gains ≤ length words.now) }
 {
-    Shape {
-        commands: plant.commands(),
-        limits: plant.limits(),
-        readings: plant.readings(),
-    }
+    let commands = plant.commands();
+    let numbers = range_numbers(words, end, 2 * commands)?;
+    range(
+        plant,
+        &numbers[0..commands],
+        &numbers[commands..2 * commands],
+    )
 }
 
 // Loads the plant and lays its ranges over it: the counts of what was accepted.
@@ -32,14 +37,8 @@ pub fn judge(words: &[u32]) -> Result<Shape, Refusal>
     let counts = load(plant_words)?;
     let plant = Written::new(plant_words, counts);
     if !range_follows(words, end) {
-        return Ok(shape_of(&plant));
+        return Ok(plant.counts().shape());
     }
-    let commands = plant.commands();
-    let numbers = range_numbers(words, end, 2 * commands)?;
-    let table = range(
-        &plant,
-        &numbers[0..commands],
-        &numbers[commands..2 * commands],
-    )?;
-    Ok(shape_of(&Ranged::new(plant, table)))
+    let table = ranges(words, end, &plant)?;
+    Ok(Ranged::new(plant, table).counts().shape())
 }

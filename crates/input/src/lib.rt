@@ -6,3 +6,5 @@ pub mod judge;
 pub mod laws;
 pub mod line;
 pub mod split;
+#[cfg(test)]
+mod tests;

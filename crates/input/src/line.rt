@@ -17,18 +17,14 @@ impl fmt::Display for Line {
 
     fn fmt<W: fmt::Write>(&self, f: &mut fmt::Formatter<W>) -> fmt::Result {
         match self.verdict {
-            Ok(shape) => {
-                let commands = shape.commands;
-                let limits = shape.limits;
-                let readings = shape.readings;
-                write!(f, "plant {commands} {limits} {readings}")
-            }
-            Err(refusal) => {
-                let number = refusal.number();
-                let layer = refusal.layer().level();
-                let place = refusal.place();
-                write!(f, "none {number} {layer} {place}")
-            }
+            Ok(
+                Shape {
+                    commands,
+                    limits,
+                    readings,
+                },
+            ) => write!(f, "plant {commands} {limits} {readings}"),
+            Err(refusal) => write!(f, "none {refusal}"),
         }
     }
 }

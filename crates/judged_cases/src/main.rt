@@ -20,15 +20,14 @@ fn print_case(rt: &HostRuntime, bytes: &[u8]) -> anyhow::Result<()> {
 fn run(rt: &HostRuntime) -> anyhow::Result<()> {
     let mut all = Vec::new(rt.alloc());
     rt.stdin().read_to_end(&mut all)?;
-    let mut at = 0;
-    while all.len() - at >= WORD_BYTES {
-        let count = u32::from_le_bytes([all[at], all[at + 1], all[at + 2], all[at + 3]]) as usize;
-        let begin = at + WORD_BYTES;
-        if all.len() - begin < count {
+    let mut rest = all.as_slice();
+    while let Some((count, cases)) = rest.split_first_chunk::<WORD_BYTES>() {
+        let count = u32::from_le_bytes(*count) as usize;
+        let Some((case, after)) = cases.split_at_checked(count) else {
             return Err(anyhow!("a case is cut off"));
-        }
-        print_case(rt, &all[begin..begin + count])?;
-        at = begin + count;
+        };
+        print_case(rt, case)?;
+        rest = after;
     }
     Ok(())
 }

@@ -5,18 +5,16 @@ ghost use Rattle.std.specs.Prelude.{◌≤◌, length};
 ghost use Rattle.words.specs.Bounds.{most_commands};
 
 mod orders;
-mod ranges;
 
 use crate::orders::orders;
-use crate::ranges::ranges;
 use corner_list::corner::Corner;
-use input::bytes::{MOST_WORDS, WORD_BYTES, words_from};
-use input::judge::shape_of;
+use input::bytes::read_words;
+use input::judge::ranges;
 use input::split::{plant_end, range_follows};
 use life::entry::Entry;
 use life::live::live;
 use life::shelf::{Beside, Empty};
-use map_steps::reply::{Grown, Reply};
+use map_steps::reply::{Done, Grown, Reply};
 use plant::interface::Plant;
 use plant::load::load;
 use plant::ranged::Ranged;
@@ -24,67 +22,34 @@ use plant::written::Written;
 use script::groups::{closing, grouped, numbers};
 use script::growth::{RECORDS, enough_grows, growth};
 use script::line::{Line, line_of};
-use std::alloc::{AllocError, Global};
-use std::io::Read;
 use trays::tray::TRAY;
-
-const MOST_BYTES: usize = MOST_WORDS * WORD_BYTES;
+use words::counts::Shape;
 
 // The denominator and the gain that stand on the tray behind the numerators of a command.
 const BEHIND_NUMERATORS: usize = 2;
 
-// The bytes of the input that are looked at. Each read takes at least one, so the turns are counted even if the input never ends.
-fn read_input(rt: &HostRuntime) -> anyhow::Result<Vec<u8>> {
-    let mut bytes = vec![in rt.alloc(); 0u8; MOST_BYTES]?;
-    let mut stdin = rt.stdin();
-    let mut filled = 0;
-    for _ in 0..MOST_BYTES {
-        if filled >= bytes.len() {
-            break;
-        }
-        let got = stdin.read(&mut bytes[filled..])?;
-        if got == 0 {
-            break;
-        }
-        filled += got;
-    }
-    bytes.truncate(filled);
-    Ok(bytes)
-}
-
-fn print_line(rt: &HostRuntime, line: Line) -> anyhow::Result<()> {
+fn print_line(rt: &HostRuntime, line: Line<'_>) -> anyhow::Result<()> {
     println!(rt; "{line}")?;
     Ok(())
 }
 
-// The replies of some entries.
-fn replies(heap: Global, log: &[Entry]) -> Result<Vec<Reply>, AllocError> {
-    let mut replies = Vec::with_capacity(heap, log.len())?;
-    for k in 0..log.len() {
-        replies.push(log[k].reply)?;
-    }
-    Ok(replies)
-}
-
 // How far the map has grown, or what stopped it.
 fn print_growth(rt: &HostRuntime, log: &[Entry]) -> anyhow::Result<()> {
-    let replies = replies(rt.alloc(), log)?;
+    let replies: Vec<Reply> = log.iter().map(|entry| entry.reply).collect(rt.alloc())?;
     match growth(&replies) {
         Ok(mapped) => print_line(rt, Line::Map(mapped)),
         Err(refusal) => print_line(rt, Line::Refused(refusal)),
     }
 }
 
-// The best command of each solve, or its refusal.
-fn print_solves(rt: &HostRuntime, log: &[Entry], commands: usize) -> anyhow::Result<()>
+// The line of a start or a solve, with the command of a plant of so many commands.
+fn print_reply(rt: &HostRuntime, entry: &Entry, commands: usize) -> anyhow::Result<()>
     requires { commands ≤ most_commands }
 {
-    for k in 0..log.len() {
-        if let Some(line) = line_of(log[k].reply, commands + BEHIND_NUMERATORS, &log[k].tray) {
-            print_line(rt, line)?;
-        }
+    match line_of(entry.reply, &entry.tray[..commands + BEHIND_NUMERATORS]) {
+        Some(line) => print_line(rt, line),
+        None => Ok(()),
     }
-    Ok(())
 }
 
 // Starts a map with the plant, grows it, solves each group of the readings that begin at a place, and prints what came of it.
@@ -96,32 +61,37 @@ fn run_map<P: Plant + Drop>(
 ) -> anyhow::Result<()>
     requires { from ≤ length words.now }
 {
-    let shape = shape_of(&plant);
-    let groups = grouped(words, from, shape.readings);
+    let counts = plant.counts();
+    let Shape {
+        commands,
+        readings,
+        ..
+    } = counts.shape();
+    let groups = grouped(words, from, readings);
     let readings = numbers(rt.alloc(), words, from, groups.count * groups.each)?;
-    let grows = enough_grows(shape);
+    let grows = enough_grows(counts);
     let orders = orders(rt.alloc(), grows, groups, &readings)?;
     let blank = Entry {
-        reply: Reply::Grow(Grown::Nothing),
+        reply: Ok(Done::Grow(Grown::Nothing)),
         tray: [0; TRAY],
     };
     let mut log = vec![in rt.alloc(); blank; orders.len()]?;
-    let mut records = vec![in rt.alloc(); Corner::blank(); RECORDS]?;
+    let mut records = vec![in rt.alloc(); Corner::default(); RECORDS]?;
     let mut tray = [0; TRAY];
     let shelf = Beside { plant, rest: Empty };
     live(&shelf, &orders, &mut records, &mut tray, &mut [], &mut log);
-    if let Some(line) = line_of(log[0].reply, 0, &log[0].tray) {
-        print_line(rt, line)?;
-    }
-    let Reply::Start(_) = log[0].reply else {
+    print_reply(rt, &log[0], commands)?;
+    let Ok(Done::Start(_)) = log[0].reply else {
         return Ok(());
     };
     print_growth(rt, &log[1..1 + grows])?;
-    print_solves(rt, &log[1 + grows..], shape.commands)?;
-    if let Some(refusal) = closing(words, groups) {
-        print_line(rt, Line::Refused(refusal))?;
+    for entry in &log[1 + grows..] {
+        print_reply(rt, entry, commands)?;
     }
-    Ok(())
+    match closing(words, groups) {
+        Ok(()) => Ok(()),
+        Err(refusal) => print_line(rt, Line::Refused(refusal)),
+    }
 }
 
 // Loads the plant and lays its ranges over it.
@@ -144,8 +114,7 @@ fn run_words(rt: &HostRuntime, words: &[u32]) -> anyhow::Result<()> {
 }
 
 fn run(rt: &HostRuntime) -> anyhow::Result<()> {
-    let bytes = read_input(rt)?;
-    let words = words_from(rt.alloc(), &bytes)?;
+    let words = read_words(rt.alloc(), rt.stdin())?;
     run_words(rt, &words)
 }
 

@@ -1,2 +1,3 @@
 pub mod Growing
 pub mod Spacing
+pub mod Readings

@@ -3,8 +3,8 @@ use Rattle.std.specs.Prelude.{◌≡◌, ℕ, ◌+◌, ◌<◌, ◌≤◌, Bool,
 use Rattle.std.specs.List.{slice_get}
 use Rattle.words.specs.declared.refusal.Refusal.{Refusal}
 use Rattle.map_steps.specs.declared.reply.Grown.TheVariants.{Nothing, Listed, Finished}
-use Rattle.map_steps.specs.declared.reply.Reply.{Reply}
-use Rattle.map_steps.specs.declared.reply.Reply.TheVariants.{Start, Solve, Grow, Answer, Refused}
+use Rattle.map_steps.specs.Replies.{Reply}
+use Rattle.map_steps.specs.declared.reply.Done.TheVariants.{Start, Solve, Grow, Answer}
 use Rattle.script.specs.declared.growth.Mapped.{Mapped}
 
 -- The records that the program lends its map.
@@ -13,23 +13,23 @@ records = 128
 
 -- The grow examined a pair.
 abbrev pub examines : Reply → Bool
-examines (Start a) = false
-examines (Solve a) = false
-examines (Grow Nothing) = true
-examines (Grow Listed) = true
-examines (Grow Finished) = false
-examines (Answer a) = false
-examines (Refused e) = false
+examines (Ok (Start a)) = false
+examines (Ok (Solve a)) = false
+examines (Ok (Grow Nothing)) = true
+examines (Ok (Grow Listed)) = true
+examines (Ok (Grow Finished)) = false
+examines (Ok (Answer a)) = false
+examines (Err e) = false
 
 -- And listed a new corner.
 abbrev pub lists : Reply → Bool
-lists (Start a) = false
-lists (Solve a) = false
-lists (Grow Nothing) = false
-lists (Grow Listed) = true
-lists (Grow Finished) = false
-lists (Answer a) = false
-lists (Refused e) = false
+lists (Ok (Start a)) = false
+lists (Ok (Solve a)) = false
+lists (Ok (Grow Nothing)) = false
+lists (Ok (Grow Listed)) = true
+lists (Ok (Grow Finished)) = false
+lists (Ok (Answer a)) = false
+lists (Err e) = false
 
 module _ (rs : List Reply) where
   -- The first so many replies, and no more, are those of grows that examined a pair.
@@ -40,5 +40,5 @@ module _ (rs : List Reply) where
 
   -- The refusal that stopped the growth, else the pairs examined and the corners listed, the first one included.
   pub data Growth : Result Mapped Refusal → Type 0 where
-    refused : {e : Refusal} (pairs : ℕ) → Examined pairs → slice_get rs pairs ≡ Some (Refused e) → Growth (Err e)
-    mapped : {g : Mapped} → Examined g.pairs → ((e : Refusal) → slice_get rs g.pairs ≢ Some (Refused e)) → g.corners ≡ 1 + count_by lists (take g.pairs rs) → Growth (Ok g)
+    refused : {e : Refusal} (pairs : ℕ) → Examined pairs → slice_get rs pairs ≡ Some (Err e) → Growth (Err e)
+    mapped : {g : Mapped} → Examined g.pairs → ((e : Refusal) → slice_get rs g.pairs ≢ Some (Err e)) → g.corners ≡ 1 + count_by lists (take g.pairs rs) → Growth (Ok g)

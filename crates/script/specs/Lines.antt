@@ -1,10 +1,10 @@
 -- The lines that the program prints.
-use Rattle.std.specs.Prelude.{ℕ, List, [], ◌∷◌, ◌++◌, take, ℤ, Some, None, codes, decimal, Option}
+use Rattle.std.specs.Prelude.{◌≡◌, ℕ, List, [], ◌∷◌, ◌++◌, ℤ, Ok, Err, Some, None, codes, decimal, Option}
 use Rattle.std.specs.Fmt.{signed_decimal}
-use Rattle.input.specs.Lines.{told}
-use Rattle.map_steps.specs.declared.reply.Reply.{Reply}
-use Rattle.map_steps.specs.declared.reply.Reply.TheVariants as reply
-use Rattle.words.specs.Refusals.{number_of, layer_of, level, place_of}
+use Rattle.map_steps.specs.Replies.{Reply}
+use Rattle.map_steps.specs.declared.reply.Done.TheVariants as done
+use Rattle.words.specs.Refusals.{refusal_text}
+use Rattle.script.specs.declared.line.Found.{Found}
 use Rattle.script.specs.declared.line.Line.{Line}
 use Rattle.script.specs.declared.line.Line.TheVariants.{First, Map, Best, Refused}
 
@@ -21,13 +21,13 @@ two a b = decimal a ++ (codes " " ++ decimal b)
 abbrev pub text_of : Line → List ℕ
 text_of (First a) = codes "first " ++ two a.mask a.exchanges
 text_of (Map g) = codes "map " ++ two g.corners g.pairs
-text_of (Best b) = codes "best" ++ (spaced (take b.shown b.tray) ++ (codes " " ++ two b.solved.mask b.solved.exchanges))
-text_of (Refused e) = told (codes "none ") (number_of e) (level (layer_of e)) (place_of e)
+text_of (Best b) = codes "best" ++ (spaced b.command.now ++ (codes " " ++ two b.at.mask b.at.exchanges))
+text_of (Refused e) = codes "none " ++ refusal_text e
 
--- The line of the reply to a start or a solve, with so many numbers of the tray.
-abbrev pub told_by : Reply → ℕ → List ℤ → Option Line
-told_by (reply.Start a) shown tray = Some (First a)
-told_by (reply.Solve a) shown tray = Some (Best (record { shown = shown; tray = tray; solved = a }))
-told_by (reply.Refused e) shown tray = Some (Refused e)
-told_by (reply.Grow g) shown tray = None
-told_by (reply.Answer a) shown tray = None
+-- The line of the reply to a start or a solve, with the numbers of a command. Replies to other calls have none.
+abbrev pub ToldBy : Reply → List ℤ → Option Line → Type 0
+ToldBy (Ok (done.Start a)) command line = line ≡ Some (First a)
+ToldBy (Ok (done.Solve a)) command line = (b : Found) × (line ≡ Some (Best b)) × (b.command.now ≡ command) × (b.at ≡ a)
+ToldBy (Ok (done.Grow g)) command line = line ≡ None
+ToldBy (Ok (done.Answer a)) command line = line ≡ None
+ToldBy (Err e) command line = line ≡ Some (Refused e)

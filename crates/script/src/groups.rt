@@ -1,10 +1,10 @@
 // The readings of the input, in groups.
 ghost use Rattle.std.specs.Prelude.{◌≡◌, ◌+◌, ◌≤◌, length, IfOk};
 ghost use Rattle.input.specs.Split.{Payloads};
-ghost use Rattle.script.specs.Groups.{ReadingsEnd, WholeGroups, GroupsOf, Closing};
+ghost use Rattle.script.specs.Groups.{LeadingReadings, ReadingsEnd, WholeGroups, GroupsOf, Closing};
 
 use std::alloc::{AllocError, Global};
-use words::kind::READING;
+use words::kind::Kind;
 use words::payload::{kind_number, payload};
 use words::refusal::Refusal;
 
@@ -17,7 +17,17 @@ pub struct Groups {
     pub count: usize,
 }
 
-// Where the readings end that begin at a place. A plant without readings takes none.
+// How many readings stand before the first word of another kind, told by its number: by `kind_of` it is no plainer.
+fn leading_readings(words: &[u32]) -> usize
+    ensures { LeadingReadings words.now result }
+{
+    words
+        .iter()
+        .position(|&word| kind_number(word) != Kind::Reading as u32)
+        .unwrap_or(words.len())
+}
+
+// Where the readings end that begin at a place, which is one in the whole input, as refusals tell it. A plant without readings takes none.
 fn readings_end(words: &[u32], from: usize, each: usize) -> usize
     requires { from ≤ length words.now }
     ensures { ReadingsEnd words.now each from result }
@@ -25,12 +35,7 @@ fn readings_end(words: &[u32], from: usize, each: usize) -> usize
     if each == 0 {
         return from;
     }
-    for k in from..words.len() {
-        if kind_number(words[k]) != READING {
-            return k;
-        }
-    }
-    words.len()
+    from + leading_readings(&words[from..])
 }
 
 // How many whole groups so many words make.
@@ -56,22 +61,22 @@ pub fn grouped(words: &[u32], from: usize, each: usize) -> Groups
 }
 
 // What is refused behind the groups.
-pub fn closing(words: &[u32], groups: Groups) -> Option<Refusal>
+pub fn closing(words: &[u32], groups: Groups) -> Result<(), Refusal>
     requires { GroupsOf words.now groups.from groups.each groups }
     ensures { Closing (length words.now) groups result }
 {
     if groups.end < words.len() {
-        return Some(Refusal::WrongKind(groups.end));
+        return Err(Refusal::WrongKind(groups.end));
     }
     if groups.from + groups.count * groups.each < groups.end {
-        return Some(Refusal::Reading(0));
+        return Err(Refusal::Reading(0));
     }
-    None
+    Ok(())
 }
 
 // The numbers of so many words from a place on.
 pub fn numbers(
-    heap: Global,
+    alloc: Global,
     words: &[u32],
     from: usize,
     count: usize,
@@ -79,9 +84,8 @@ pub fn numbers(
     requires { from + count ≤ length words.now }
     ensures { IfOk result (λ v. (length v.items ≡ count) × Payloads words.now from count v.items) }
 {
-    let mut numbers = Vec::with_capacity(heap, count)?;
-    for i in 0..count {
-        numbers.push(i64::from(payload(words[from + i])))?;
-    }
-    Ok(numbers)
+    words[from..from + count]
+        .iter()
+        .map(|&word| i64::from(payload(word)))
+        .collect(alloc)
 }

@@ -1,10 +1,9 @@
 // How far a map has grown.
 ghost use Rattle.std.specs.Prelude.{◌≡◌, ◌+◌, ◌-◌, ◌*◌, ◌≤◌};
-ghost use Rattle.words.specs.Layout.{InBounds};
 ghost use Rattle.script.specs.Growths.{records, examines, lists, Growth};
 
-use map_steps::reply::{Grown, Reply};
-use words::counts::Shape;
+use map_steps::reply::{Done, Grown, Reply};
+use words::counts::{Counts, Shape};
 use words::refusal::Refusal;
 
 // The records that the program lends its map.
@@ -18,25 +17,29 @@ pub struct Mapped {
 }
 
 // So many grows examine every pair of a full list, and find that none is left.
-pub fn enough_grows(shape: Shape) -> usize
-    requires { InBounds shape }
-    ensures { result ≡ records * (shape.limits - shape.commands) + 1 }
+pub fn enough_grows(counts: Counts) -> usize
+    ensures { result ≡ records * (counts.shape.limits - counts.shape.commands) + 1 }
 {
-    RECORDS * shape.limits.saturating_sub(shape.commands) + 1
+    let Shape {
+        commands,
+        limits,
+        ..
+    } = counts.shape();
+    RECORDS * limits.saturating_sub(commands) + 1
 }
 
 // Whether the call was a grow that examined a pair.
 fn examined(reply: Reply) -> bool
     ensures { result ≡ examines reply }
 {
-    matches!(reply, Reply::Grow(Grown::Nothing | Grown::Listed))
+    matches!(reply, Ok(Done::Grow(Grown::Nothing | Grown::Listed)))
 }
 
 // Whether it listed a new corner.
 fn listed(reply: Reply) -> bool
     ensures { result ≡ lists reply }
 {
-    matches!(reply, Reply::Grow(Grown::Listed))
+    matches!(reply, Ok(Done::Grow(Grown::Listed)))
 }
 
 // What the replies to grows say, up to the first that examined no pair.
@@ -44,13 +47,10 @@ pub fn growth(replies: &[Reply]) -> Result<Mapped, Refusal>
     ensures { Growth replies.now result }
 {
     let mut corners = 1;
-    for k in 0..replies.len() {
-        let reply = replies[k];
-        if let Reply::Refused(refusal) = reply {
-            return Err(refusal);
-        }
+    for (pairs, &reply) in replies.iter().enumerate() {
+        reply?;
         if !examined(reply) {
-            return Ok(Mapped { corners, pairs: k });
+            return Ok(Mapped { corners, pairs });
         }
         if listed(reply) {
             corners += 1;

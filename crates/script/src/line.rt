@@ -1,11 +1,10 @@
 // The lines that the program prints.
 ghost use Rattle.std.specs.Prelude.{◌≡◌, Some};
-ghost use Rattle.script.specs.Lines.{spaced, text_of, told_by};
+ghost use Rattle.script.specs.Lines.{spaced, text_of, ToldBy};
 
 use crate::growth::Mapped;
-use map_steps::reply::{Reply, Solved, Started};
+use map_steps::reply::{Done, Reached, Reply};
 use std::fmt;
-use trays::tray::TRAY;
 use words::refusal::Refusal;
 
 // Numbers, with a blank before each.
@@ -18,6 +17,7 @@ impl<'a> fmt::Display for Spaced<'a> {
     ghost output = { λ s. Some (spaced s.numbers.now) };
 
     fn fmt<W: fmt::Write>(&self, f: &mut fmt::Formatter<W>) -> fmt::Result {
+        // By place: of a number that a loop hands out the proof does not know that it fits its type, as its decimals ask.
         for k in 0..self.numbers.len() {
             let number = self.numbers[k];
             write!(f, " {number}")?;
@@ -26,69 +26,48 @@ impl<'a> fmt::Display for Spaced<'a> {
     }
 }
 
-// A command found by a solve: how many numbers of the tray say it, the tray, and the corner that it was found at.
+// A command found by a solve: the numbers of the tray that say it, and the corner that it was found at.
 #[derive(Clone, Copy)]
-pub struct Found {
-    pub shown: usize,
-    pub tray: [i64; TRAY],
-    pub solved: Solved,
+pub struct Found<'a> {
+    pub command: &'a [i64],
+    pub at: Reached,
 }
 
 // The first corner; how far the map has grown; the best command at a reading; or a refusal.
 #[derive(Clone, Copy)]
-pub enum Line {
-    First(Started),
+pub enum Line<'a> {
+    First(Reached),
     Map(Mapped),
-    Best(Found),
+    Best(Found<'a>),
     Refused(Refusal),
 }
 
-impl fmt::Display for Line {
+impl<'a> fmt::Display for Line<'a> {
     ghost output = { λ l. Some (text_of l) };
 
     fn fmt<W: fmt::Write>(&self, f: &mut fmt::Formatter<W>) -> fmt::Result {
         match *self {
-            Line::First(started) => {
-                let mask = started.mask;
-                let exchanges = started.exchanges;
-                write!(f, "first {mask} {exchanges}")
-            }
-            Line::Map(mapped) => {
-                let corners = mapped.corners;
-                let pairs = mapped.pairs;
-                write!(f, "map {corners} {pairs}")
-            }
-            Line::Best(found) => {
-                let command = Spaced {
-                    numbers: &found.tray[0..found.shown.min(TRAY)],
-                };
-                let mask = found.solved.mask;
-                let exchanges = found.solved.exchanges;
+            Line::First(Reached { mask, exchanges }) => write!(f, "first {mask} {exchanges}"),
+            Line::Map(Mapped { corners, pairs }) => write!(f, "map {corners} {pairs}"),
+            Line::Best(Found { command, at }) => {
+                let command = Spaced { numbers: command };
+                let mask = at.mask;
+                let exchanges = at.exchanges;
                 write!(f, "best{command} {mask} {exchanges}")
             }
-            Line::Refused(refusal) => {
-                let number = refusal.number();
-                let layer = refusal.layer().level();
-                let place = refusal.place();
-                write!(f, "none {number} {layer} {place}")
-            }
+            Line::Refused(refusal) => write!(f, "none {refusal}"),
         }
     }
 }
 
-// The line that tells the reply to a start or a solve, with so many numbers of the tray. Replies to other calls have no line of their own.
-pub fn line_of(reply: Reply, shown: usize, tray: &[i64; TRAY]) -> Option<Line>
-    ensures { result ≡ told_by reply shown tray.now }
+// The line that tells the reply to a start or a solve, with the numbers of the command. Replies to other calls have no line of their own.
+pub fn line_of<'a>(reply: Reply, command: &'a [i64]) -> Option<Line<'a>>
+    ensures { ToldBy reply command.now result }
 {
     match reply {
-        Reply::Start(started) => Some(Line::First(started)),
-        Reply::Solve(solved) => Some(Line::Best(Found {
-            shown,
-            tray: *tray,
-            solved,
-        })),
-        Reply::Refused(refusal) => Some(Line::Refused(refusal)),
-        Reply::Grow(_) => None,
-        Reply::Answer(_) => None,
+        Ok(Done::Start(at)) => Some(Line::First(at)),
+        Ok(Done::Solve(at)) => Some(Line::Best(Found { command, at })),
+        Ok(Done::Grow(_) | Done::Answer(_)) => None,
+        Err(refusal) => Some(Line::Refused(refusal)),
     }
 }

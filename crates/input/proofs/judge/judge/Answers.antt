@@ -1,14 +1,13 @@
-use Rattle.std.proofs.Common.{◌*◌, take, ap, ◌∙◌, subst}
+use Rattle.std.proofs.Common.{take, ap, ◌∙◌}
 use Rattle.std.proofs.lemmas.Result.{err_from_is_err_and}
 use Rattle.plant.specs.Meaning.{shape_of}
 use Rattle.plant.specs.Described.{Describes}
 use Rattle.plant.specs.Ranged.{ranged_by}
 use Rattle.plant.specs.Written.{said}
-use Rattle.input.specs.Split.{RangeWordsFaulty}
-use Rattle.input.specs.Judged.{no_plant, plant, no_range, wrong_words, wrong_range, ranged}
-use Rattle.input.proofs.Parts.{refused_part, is_plant, ranges_are}
+use Rattle.input.specs.Judged.{no_plant, plant, no_range, ranged}
+use Rattle.input.proofs.Parts.{refused_part, is_plant}
 use Rattle.input.proofs.judge.judge.Goals as goal
-use Rattle.input.proofs.judge.judge.Goals.{After-new-plant, at-returns-then-not-range_follows, at-returns-in_err-numbers, at-returns-in_err-table, at-returns}
+use Rattle.input.proofs.judge.judge.Goals.{After-new-plant, at-returns-then-not-range_follows, at-returns-in_err-table, at-returns}
 
 -- The plant that was loaded is the one that the words describe.
 loaded : (c : After-new-plant) → Describes (take c.plant_end-end.result c.args.words.now) (said c.new-plant.result.words.now c.new-plant.result.counts.shape)
@@ -23,38 +22,21 @@ returns-in_err-counts c =
 pub returns-then-not-range_follows : goal.returns-then-not-range_follows
 returns-then-not-range_follows c =
     let D = loaded (at-returns-then-not-range_follows c).After-new-plant in
-    (c.plant_end-end.result, c.plant_end-end.ensures.ends, plant _ D (no_range c.if-not-range_follows.ensures c.shape_of.ensures))
-
-pub returns-in_err-numbers : goal.returns-in_err-numbers
-returns-in_err-numbers c =
-    let r = err_from_is_err_and c.from_residual-in_err-numbers.result c.from_residual-in_err-numbers.ensures.1 in
-    let n = c.plant_end-end.result in
-    let D = loaded (at-returns-in_err-numbers c).After-new-plant in
-    let W = subst (λ m. RangeWordsFaulty c.args.words.now n (2 * m) c.in_err-numbers.field-0.0) c.commands-commands.ensures c.in_err-numbers.ensures in
-    rw (r.1, r.2) (n, c.plant_end-end.ensures.ends, plant _ D (wrong_words c.if-not-range_follows.ensures W))
+    (c.plant_end-end.result, c.plant_end-end.ensures.ends, plant _ D (no_range c.if-not-range_follows.ensures (c.shape.ensures ∙ c.counts.ensures)))
 
 pub returns-in_err-table : goal.returns-in_err-table
 returns-in_err-table c =
     let r = err_from_is_err_and c.from_residual-in_err-table.result c.from_residual-in_err-table.ensures.1 in
-    let n = c.plant_end-end.result in
     let D = loaded (at-returns-in_err-table c).After-new-plant in
-    let N = c.in_ok-numbers.ensures in
-    let R = ranges_are c.args.words.now n c.commands-commands.result _ c.in_ok-numbers.numbers D.bounded c.if-not-range_follows.ensures c.commands-commands.ensures N.0 N.1 N.2 in
-    rw (r.1, r.2) (n, c.plant_end-end.ensures.ends, plant _ D (wrong_range _ _ R c.in_err-table.ensures))
+    rw (r.1, r.2) (c.plant_end-end.result, c.plant_end-end.ensures.ends, plant _ D (c.in_err-table.ensures.verdict c.if-not-range_follows.ensures))
 
 pub returns : goal.returns
 returns c =
-    let n = c.plant_end-end.result in
     let D = loaded (at-returns c).After-new-plant in
-    let N = c.in_ok-numbers.ensures in
-    let R = ranges_are c.args.words.now n c.commands-commands.result _ c.in_ok-numbers.numbers D.bounded c.if-not-range_follows.ensures c.commands-commands.ensures N.0 N.1 N.2 in
-    let T = c.in_ok-table.ensures in (
-      n,
-      c.plant_end-end.ensures.ends,
-      plant _ D (ranged _ _ R T.0
-          (c.shape_of-2.ensures
-          ∙ ap (λ t. shape_of (ranged_by t (said c.new.result.below.words.now c.new.result.below.counts.shape))) c.new.ensures.table
-          ∙ ap (λ b. shape_of (ranged_by c.in_ok-table.table (said b.words.now b.counts.shape))) c.new.ensures.below
-          ∙ ap shape_of T.1
-          )),
-    )
+    let T = c.in_ok-table.ensures.verdict c.if-not-range_follows.ensures in
+    let same = c.shape-2.ensures
+    ∙ c.counts-2.ensures
+    ∙ ap (λ t. shape_of (ranged_by t (said c.new.result.below.words.now c.new.result.below.counts.shape))) c.new.ensures.table
+    ∙ ap (λ b. shape_of (ranged_by c.in_ok-table.table (said b.words.now b.counts.shape))) c.new.ensures.below
+    ∙ ap shape_of T.4 in
+    (c.plant_end-end.result, c.plant_end-end.ensures.ends, plant _ D (ranged T.0 T.1 T.2 T.3 same))

@@ -1,8 +1,10 @@
 -- The words of the input are its chunks of four bytes.
-use Rattle.std.proofs.Common.{◌≡◌, Some, None, Option, IfSome, subst, ℕ, zero, suc, ◌+◌, ◌*◌, ◌/◌, ◌<◌, List, [], length, get_or, take, drop, min, map, ap, ◌∙◌, refl, arith, length-take, w32}
-use Rattle.std.proofs.lemmas.List.{get_or-take, get_or-drop, get_or-map, length-map}
+use Rattle.std.proofs.Common.{◌≡◌, Some, None, Option, IfSome, subst, sym, ⊎_elim, ℕ, zero, suc, ◌+◌, ◌*◌, ◌/◌, ◌<◌, ◌≤◌, List, [], ◌++◌, length, get_or, take, drop, min, map, ap, ◌∙◌, refl, arith, length-append, length-take, w32}
+use Rattle.std.proofs.KnownBytes.{Consumes-whole}
+use Rattle.std.proofs.lemmas.Bool.{cases_lt}
+use Rattle.std.proofs.lemmas.List.{get_or-take, get_or-drop, get_or-map, get_or_append_left, length-map}
 use Rattle.std.specs.Int.{from_le_bytes}
-use Rattle.std.specs.Option.{option_map}
+use Rattle.std.specs.Io.KnownBytes.{Consumes, IsAtEnd}
 use Rattle.std.specs.Simd.{first_chunks}
 use Rattle.input.specs.Bytes.{most_words, word_at, WordsOf}
 
@@ -37,11 +39,11 @@ words_of_chunks bs n chunks e m =
           ∙ word_of_bytes (get_or (take n chunks) k []) bs k (byte k 0 inside (omega arith)) (byte k 1 inside (omega arith)) (byte k 2 inside (omega arith)) (byte k 3 inside (omega arith));
     }
 
--- What is not looked at adds no words.
-words_of_front : (bs ws : List ℕ) → WordsOf (take 65536 bs) ws → WordsOf bs ws
-words_of_front bs ws W =
-    let many : length ws ≡ min (length bs / 4) most_words = omega (arith, W.many, length-take 65536 bs) in
-    let byte : (i : ℕ) → i < 65536 → get_or (take 65536 bs) i 0 ≡ get_or bs i 0 = λ i h. get_or-take 65536 bs i 0 h in
+-- What comes after the bytes that are looked at adds no words.
+words_of_front : (bs rest ws : List ℕ) → 65536 ≤ length bs → WordsOf bs ws → WordsOf (bs ++ rest) ws
+words_of_front bs rest ws full W =
+    let many : length ws ≡ min (length (bs ++ rest) / 4) most_words = omega (arith, W.many, length-append bs rest) in
+    let byte : (i : ℕ) → i < 65536 → get_or (bs ++ rest) i 0 ≡ get_or bs i 0 = λ i h. get_or_append_left bs rest 0 i (omega arith) in
     record {
       many = many;
       each = λ k h.
@@ -49,7 +51,11 @@ words_of_front bs ws W =
           W.each k h ∙ rw (byte (4 * k) (omega arith), byte (4 * k + 1) (omega arith), byte (4 * k + 2) (omega arith), byte (4 * k + 3) (omega arith)) refl;
     }
 
--- The words of what was read are those of all that the source gives, where that is known.
-pub words_of_source : (given : Option (List ℕ)) (bytes ws : List ℕ) → IfSome (option_map (take 65536) given) (λ xs. bytes ≡ xs) → WordsOf bytes ws → IfSome given (λ bs. WordsOf bs ws)
-words_of_source (Some bs) bytes ws e W = words_of_front bs ws (subst (λ x. WordsOf x ws) e W)
-words_of_source None bytes ws e W = tt
+-- The words of what was read are those of all that the source gives, where that is known: the source is at its end, or all that is looked at was read.
+pub words_of_source : (given left : Option (List ℕ)) (bs ws : List ℕ) → Consumes given left bs → (length bs < 65536 → IsAtEnd left) → WordsOf bs ws → IfSome given (λ xs. WordsOf xs ws)
+words_of_source None left bs ws read end W = tt
+words_of_source (Some xs) None bs ws read end W = absurd read
+words_of_source (Some xs) (Some rest) bs ws read end W = ⊎_elim
+    (λ short. Consumes-whole (Some xs) (Some rest) bs (λ l. WordsOf l ws) read (end short) W)
+    (λ full. subst (λ l. WordsOf l ws) (sym read) (words_of_front bs rest ws full W))
+    (cases_lt (length bs) 65536)

@@ -1,17 +1,19 @@
 // The words of the input.
-ghost use Rattle.std.specs.Prelude.{IfOk, IfSome};
+ghost use Rattle.std.specs.Prelude.{◌≡◌, ◌<◌, ◌≤◌, length, take, IfOk, IfSome};
+ghost use Rattle.std.specs.Io.KnownBytes.{Consumes, IsAtEnd};
+ghost use Rattle.std.specs.IoError.{error_kind};
 ghost use Rattle.input.specs.Bytes.{WordsOf};
 
 use std::alloc::{AllocError, Global};
 use std::io;
-use std::io::Read;
+use std::io::{ErrorKind, Read};
 
 // The most words that are looked at, and the bytes that they have.
 pub const MOST_WORDS: usize = 16_384;
 
 pub const WORD_BYTES: usize = 4;
 
-const MOST_BYTES: u64 = (MOST_WORDS * WORD_BYTES) as u64;
+const MOST_BYTES: usize = MOST_WORDS * WORD_BYTES;
 
 // The words that the bytes are, the lowest byte of each first; loose bytes at the end are dropped.
 pub fn words_from(alloc: Global, bytes: &[u8]) -> Result<Vec<u32>, AllocError>
@@ -25,11 +27,35 @@ pub fn words_from(alloc: Global, bytes: &[u8]) -> Result<Vec<u32>, AllocError>
         .collect(alloc)
 }
 
+// How many bytes a source gave, into the front of these. Each read has all the room that is left, so that a source of messages gives each whole; an interrupted read is an error as any other.
+fn fill<R: Read>(source: &mut R, bytes: &mut [u8]) -> io::Result<usize>
+    ensures within { IfOk result (λ n. n ≤ length bytes.new) }
+    ensures read { IfOk result (λ n. Consumes (R.remaining source.old) (R.remaining source.new) (take n bytes.new)) }
+    ensures end { IfOk result (λ n. n < length bytes.new → IsAtEnd (R.remaining source.new)) }
+{
+    let mut filled = 0;
+    while filled < bytes.len() {
+        let got = source.read(&mut bytes[filled..])?;
+        if got == 0 {
+            return Ok(filled);
+        }
+        filled += got;
+    }
+    Ok(filled)
+}
+
+// Told in the allocator's words.
+fn no_memory(_: AllocError) -> io::Error
+    ensures { error_kind result ≡ ErrorKind.OutOfMemory }
+{
+    io::Error::new(ErrorKind::OutOfMemory, "memory allocation failed")
+}
+
 // The words that a source gives. No more of it is read than is looked at.
-pub fn read_words<R: Read + Drop>(alloc: Global, source: R) -> io::Result<Vec<u32>>
+pub fn read_words<R: Read + Drop>(alloc: Global, mut source: R) -> io::Result<Vec<u32>>
     ensures { IfOk result (λ v. IfSome (R.remaining source) (λ bytes. WordsOf bytes v.items)) }
 {
-    let mut bytes = Vec::new(alloc);
-    source.take(MOST_BYTES).read_to_end(&mut bytes)?;
-    Ok(words_from(alloc, &bytes)?)
+    let mut bytes = vec![in alloc; 0u8; MOST_BYTES].map_err(no_memory)?;
+    let filled = fill(&mut source, &mut bytes)?;
+    words_from(alloc, &bytes[..filled]).map_err(no_memory)
 }

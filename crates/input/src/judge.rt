@@ -13,14 +13,13 @@ use plant::written::Written;
 use words::counts::Shape;
 use words::refusal::Refusal;
 
-// The lows and highs behind the words of a plant, judged for the plant.
+// The lows and highs behind the words of a plant, judged for the plant. A place past the words is taken as their end, where the first low is missing.
 pub fn ranges<P: Plant>(words: &[u32], end: usize, plant: &P) -> Result<RangeTable, Refusal>
-    requires { end ≤ length words.now }
     ensures verdict { RangeFollows words.now end → TableVerdict words.now end (P.Plant.meaning plant.now) result }
     ensures within { OnOk result (end + 2 * length (P.Plant.meaning plant.now).gains ≤ length words.now) }
 {
     let commands = plant.commands();
-    let numbers = range_numbers(words, end, 2 * commands)?;
+    let numbers = range_numbers(words, end.min(words.len()), 2 * commands)?;
     range(
         plant,
         &numbers[0..commands],

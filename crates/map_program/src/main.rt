@@ -46,7 +46,7 @@ fn print_growth(rt: &HostRuntime, log: &[Entry]) -> anyhow::Result<()> {
 fn print_reply(rt: &HostRuntime, entry: &Entry, commands: usize) -> anyhow::Result<()>
     requires { commands ≤ most_commands }
 {
-    match line_of(entry.reply, &entry.tray[..commands + BEHIND_NUMERATORS]) {
+    match line_of(entry.reply, commands + BEHIND_NUMERATORS, &entry.tray) {
         Some(line) => print_line(rt, line),
         None => Ok(()),
     }
@@ -69,7 +69,7 @@ fn run_map<P: Plant + Drop>(
     } = counts.shape();
     let groups = grouped(words, from, readings);
     let readings = numbers(rt.alloc(), words, from, groups.count * groups.each)?;
-    let grows = enough_grows(counts);
+    let grows = enough_grows(counts.shape());
     let orders = orders(rt.alloc(), grows, groups, &readings)?;
     let blank = Entry {
         reply: Ok(Done::Grow(Grown::Nothing)),

@@ -1,9 +1,10 @@
 // How far a map has grown.
 ghost use Rattle.std.specs.Prelude.{◌≡◌, ◌+◌, ◌-◌, ◌*◌, ◌≤◌};
+ghost use Rattle.words.specs.Layout.{InBounds};
 ghost use Rattle.script.specs.Growths.{records, examines, lists, Growth};
 
 use map_steps::reply::{Done, Grown, Reply};
-use words::counts::{Counts, Shape};
+use words::counts::Shape;
 use words::refusal::Refusal;
 
 // The records that the program lends its map.
@@ -17,15 +18,11 @@ pub struct Mapped {
 }
 
 // So many grows examine every pair of a full list, and find that none is left.
-pub fn enough_grows(counts: Counts) -> usize
-    ensures { result ≡ records * (counts.shape.limits - counts.shape.commands) + 1 }
+pub fn enough_grows(shape: Shape) -> usize
+    requires { InBounds shape }
+    ensures { result ≡ records * (shape.limits - shape.commands) + 1 }
 {
-    let Shape {
-        commands,
-        limits,
-        ..
-    } = counts.shape();
-    RECORDS * limits.saturating_sub(commands) + 1
+    RECORDS * shape.limits.saturating_sub(shape.commands) + 1
 }
 
 // Whether the call was a grow that examined a pair.

@@ -1,10 +1,11 @@
 // The lines that the program prints.
-ghost use Rattle.std.specs.Prelude.{◌≡◌, Some};
+ghost use Rattle.std.specs.Prelude.{◌≡◌, take, Some};
 ghost use Rattle.script.specs.Lines.{spaced, text_of, ToldBy};
 
 use crate::growth::Mapped;
 use map_steps::reply::{Done, Reached, Reply};
 use std::fmt;
+use trays::tray::TRAY;
 use words::refusal::Refusal;
 
 // Numbers, with a blank before each.
@@ -60,13 +61,16 @@ impl<'a> fmt::Display for Line<'a> {
     }
 }
 
-// The line that tells the reply to a start or a solve, with the numbers of the command. Replies to other calls have no line of their own.
-pub fn line_of<'a>(reply: Reply, command: &'a [i64]) -> Option<Line<'a>>
-    ensures { ToldBy reply command.now result }
+// The line that tells the reply to a start or a solve, with so many numbers of the tray. Replies to other calls have no line of their own.
+pub fn line_of<'a>(reply: Reply, shown: usize, tray: &'a [i64; TRAY]) -> Option<Line<'a>>
+    ensures { ToldBy reply (take shown tray.now) result }
 {
     match reply {
         Ok(Done::Start(at)) => Some(Line::First(at)),
-        Ok(Done::Solve(at)) => Some(Line::Best(Found { command, at })),
+        Ok(Done::Solve(at)) => {
+            let command = &tray[..shown.min(TRAY)];
+            Some(Line::Best(Found { command, at }))
+        }
         Ok(Done::Grow(_) | Done::Answer(_)) => None,
         Err(refusal) => Some(Line::Refused(refusal)),
     }

@@ -1,10 +1,11 @@
 -- The pair that is due: the record and the limit outside its mask that the number of examined pairs tells.
-use Rattle.std.proofs.Common.{◌≡◌, ℕ, zero, suc, ◌*◌, ◌/◌, ◌%◌, ◌<◌, ◌≤◌, Bool, true, false, cond, eqb, List, length, Option, Some, None, get_or, take, sym, refl, ap, ◌∙◌, subst, mod-lt, div-lt_iff_lt-mul, mul-zero, div-add-mod', arith, rules}
+use Rattle.std.proofs.Common.{◌≡◌, ℕ, zero, suc, ◌+◌, ◌*◌, ◌/◌, ◌%◌, ◌^◌, ◌<◌, ◌≤◌, Bool, true, false, cond, eqb, List, length, Option, Some, None, get_or, take, sym, refl, ap, ◌∙◌, subst, mod-lt, div-lt_iff_lt-mul, mul-le-mul, mul-zero, div-add-mod', arith, rules}
 use Rattle.std.specs.Option.{IsSome}
 use native.Mathlib.Decide.{ℕ_discrete}
 use Rattle.plant.specs.Meaning.{Meaning, shape_of}
 use Rattle.tableau.specs.Masks.{holds, mask_of}
 use Rattle.tableau.specs.Plants.{commands, limits, CornerOf}
+use Rattle.words.specs.Bounds.{most_limits}
 use Rattle.words.specs.declared.counts.Shape.{Shape}
 use Rattle.tableau_words.specs.Layout.{size}
 use Rattle.corner_runs.specs.Answers.{HoldsCorner, SomeCorner}
@@ -14,6 +15,7 @@ use Rattle.corner_list.specs.declared.corner.Corner.{Corner}
 use Rattle.corner_list.proofs.ClearBits.{mask_bit, clear_bit, clear_mask}
 use Rattle.corner_list.proofs.Listing.{record_corner, record_at}
 use Rattle.map_steps.specs.Pairs.{outside_below, pairs_each, Due}
+use Rattle.clutch_map.specs.Listed.{most_records}
 use Rattle.clutch_map.specs.Views.{masks_of}
 use Rattle.clutch_map.proofs.Seen.{masks_long, mask_of_record}
 
@@ -42,8 +44,14 @@ module _ (p : Meaning) (cs : List Corner) (pairs : ℕ) (left : pairs < length c
   place_listed : pairs / pairs_each p < length cs
   place_listed = (div-lt_iff_lt-mul some_each).1 left
 
+  pub few_pairs : length cs ≤ most_records → limits p ≤ most_limits → pairs + 1 < 2 ^ 32
+  few_pairs few n = omega (arith, mul-le-mul {n₁ = length cs} {m₁ = pairs_each p} {n₂ = most_records} {m₂ = most_limits} few (omega arith))
+
   -- The pairs of each corner, as the code has them.
   module _ (each : ℕ) (pairs_of : each ≡ pairs_each p) where
+    pub record_there : ¬ (length cs ≤ pairs / each)
+    record_there l = omega (arith, place_listed, rw pairs_of at l)
+
     module _ (records : AllRecords p cs) (r : Corner) (is_at : r ≡ get_or cs (pairs / each) r) where
       is : r ≡ corner cs (pairs / pairs_each p)
       is = record_at cs (pairs / pairs_each p) r (place_listed, rw pairs_of at is_at)

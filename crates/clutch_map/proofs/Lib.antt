@@ -1,4 +1,5 @@
 pub mod Seen
+pub mod Faults
 pub mod AskedSteps
 pub mod SolveSteps
 pub mod StartSteps

@@ -120,7 +120,7 @@ clear_count b n (suc j) S l e = rw (e j l) (by (S j) (clear_count b n j S (omega
     by true h = omega arith
     by false h = omega arith
 
--- The mask of a corner: the bit of a limit in the basis is 1,
+-- The mask of a corner: the bit of a limit is 1 exactly when the limit is in the basis.
 module _ (p : Meaning) (X : CornerOf p) (j : ℕ) (l : j < limits p) where
   basis_bit : bit (mask_of p X) j ≡ cond (holds (commands p) X.β j) 1 0
   basis_bit = mask_bit (limits p) (holds (commands p) X.β) j l
@@ -128,9 +128,23 @@ module _ (p : Meaning) (X : CornerOf p) (j : ℕ) (l : j < limits p) where
   pub in_basis_bit : InBasis p X j → bit (mask_of p X) j ≡ 1
   in_basis_bit (r, k, e) = basis_bit ∙ ap (λ t. cond t 1 0) (ap (holds (commands p) X.β) (sym e) ∙ holds_in (commands p) X.β r k)
 
-  -- and a limit whose bit is 0 is not.
+  pub bit_in_basis : bit (mask_of p X) j ≡ 1 → InBasis p X j
+  bit_in_basis e = by (holds (commands p) X.β j) refl (sym basis_bit ∙ e)
+    where
+      by : (t : Bool) → holds (commands p) X.β j ≡ t → ◌≡◌ {A = ℕ} (cond t 1 0) 1 → InBasis p X j
+      by true h d = holds_out (commands p) X.β j h
+      by false h d = absurd (omega arith)
+
+  -- and 0 exactly when it is not.
   pub clear_bit : bit (mask_of p X) j ≡ 0 → ¬ InBasis p X j
   clear_bit e h = omega (arith, in_basis_bit h)
+
+  pub bit_clear : ¬ InBasis p X j → bit (mask_of p X) j ≡ 0
+  bit_clear n = by (holds (commands p) X.β j) refl
+    where
+      by : (t : Bool) → holds (commands p) X.β j ≡ t → bit (mask_of p X) j ≡ 0
+      by true h = absurd (n (holds_out (commands p) X.β j h))
+      by false h = basis_bit ∙ ap (λ t. cond t 1 0) h
 
 -- As many limits are outside the basis as there are more limits than commands.
 pub clear_mask : (p : Meaning) (X : CornerOf p) → clear_bits (mask_of p X) (limits p) ≡ limits p - commands p

@@ -23,6 +23,9 @@ use Rattle.corner_list.proofs.FromWords.{corner_in, corner_in_holds}
 pub corner_from : (p : Meaning) (ws : List ℤ) → CornerWords p ws → (X : CornerOf p) × HoldsCorner p X ws
 corner_from p ws t = (corner_in p ws t, corner_in_holds p ws t)
 
+pub words_of_corner : (p : Meaning) (X : CornerOf p) (ws : List ℤ) → HoldsCorner p X ws → CornerWords p ws
+words_of_corner p X ws H = ∣ (X, H) ∣₁
+
 pub corner_words_in_width : (p : Meaning) (ws : List ℤ) → InBounds (shape_of p) → CornerWords p ws → AllInWidth ws
 corner_words_in_width p ws counts t = holds_widths p (limits p) (column p) (corner_in p ws t) ws counts (omega arith) (corner_in_holds p ws t)
 

@@ -11,6 +11,7 @@ use Rattle.tableau.proofs.Willing.{injective}
 use Rattle.words.specs.declared.counts.Shape.{Shape}
 use Rattle.corner_words.specs.Corners.{Holding}
 use Rattle.corner_words.specs.Reads.{OwnLimits, MaskAnswer}
+use Rattle.corner_words.proofs.Holdings.{LimitAnswer}
 
 -- The limit of row r in the words.
 abbrev pub limit_in : List ℤ → ℕ → ℕ
@@ -48,6 +49,10 @@ module _ (c : Shape) (ws : List ℤ) (H : Holding c ws) where
 
   limit_is : (r : ℕ) → r < c.commands → limit_in ws r ≡ H.X.β r
   limit_is r l = ap nat_abs (H.holds.held.limits r (inside r l))
+
+  -- The limit that was read.
+  pub limit_read : (r l : ℕ) → r < c.commands → LimitAnswer c r ws l → l ≡ limit_in ws r
+  limit_read r l h L = L H.p H.n H.a H.X H.shape H.holds ∙ sym (limit_is r h)
 
   pub limit_below : OwnLimits c ws → (r : ℕ) → r < c.commands → limit_in ws r < c.limits
   limit_below O r l = omega (arith, ints, O r l, H.holds.held.limits r (inside r l))

@@ -1,7 +1,7 @@
 -- The laws of divisors.
 use Rattle.std.proofs.Common.{ℕ, zero, suc, ◌<◌, ℤ, pos, ◌+ℤ◌, ◌*ℤ◌, neg_ℤ, ◌≤ℤ◌, ◌<ℤ◌, sym, ap, ◌∙◌, ap₂, arith}
 use lib.IntN.{zero-*ℤ, *ℤ-zero, *ℤ_comm}
-use Rattle.exact.specs.Vectors.{sum}
+use Rattle.exact.specs.Vectors.{sum, dot}
 use Rattle.exact.specs.Divisors.{Divides}
 use Rattle.exact.proofs.Ring.{lin, expand, one-*, *-assoc, neg-*ˡ, +-*ˡ, mul_mono, below, same, above, order, pos_of_mul}
 
@@ -37,3 +37,8 @@ div_pos d x n p (q, e) = elim (order (pos 0) d) [
 
 pub div_le : (d x : ℤ) → pos 0 <ℤ d → pos 0 <ℤ x → Divides d x → d ≤ℤ x
 div_le d x pd px (q, e) = let l : pos 0 <ℤ q = pos_of_mul q d pd (rw (← e) px) in omega (arith, lin, e, *ℤ_comm d q, mul_mono (pos 1) q d (omega (arith, lin)) (omega (arith, lin)), one-* d)
+
+-- What divides each entry of a vector divides its dot products.
+pub div_dot : (m : ℕ) (d : ℤ) (x y : ℕ → ℤ) → ((c : ℕ) → c < m → Divides d (y c)) → Divides d (dot m x y)
+unfolding dot
+div_dot m d x y h = div_sum m d (λ c. x c *ℤ y c) (λ c l. div_mul d (x c) (y c) (h c l))

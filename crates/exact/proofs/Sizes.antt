@@ -1,5 +1,6 @@
 -- The sizes of sums, products and quotients.
-use Rattle.std.proofs.Common.{◌≡◌, ℕ, zero, suc, ◌+◌, ◌*◌, ◌^◌, ◌<◌, ◌≤◌, List, [], ◌∷◌, take, drop, set, ℤ, pos, negsuc, ◌+ℤ◌, ◌-ℤ◌, ◌*ℤ◌, neg_ℤ, nat_abs, refl, arith, w64, SFits}
+use Rattle.std.proofs.Common.{◌≡◌, ℕ, zero, suc, ◌+◌, ◌*◌, ◌/◌, ◌^◌, ◌<◌, ◌≤◌, List, [], ◌∷◌, take, drop, set, ℤ, pos, negsuc, ◌+ℤ◌, ◌-ℤ◌, ◌*ℤ◌, neg_ℤ, nat_abs, refl, div-le_self, arith, w64, SFits}
+use lib.Signed.{quot_z}
 use Rattle.std.proofs.lemmas.Int.{ints}
 use Rattle.std.proofs.lemmas.Nat.{mul-le}
 use Rattle.exact.specs.Bounds.{width, InWidth, AllInWidth}
@@ -15,6 +16,12 @@ abs_mul (pos a) (pos b) = refl
 abs_mul (pos a) (negsuc b) = abs_neg (pos (a * suc b))
 abs_mul (negsuc a) (pos b) = abs_neg (pos (suc a * b))
 abs_mul (negsuc a) (negsuc b) = refl
+
+pub abs_quot : (a b : ℤ) → nat_abs (quot_z a b) ≤ nat_abs a
+abs_quot (pos a) (pos b) = div-le_self a b
+abs_quot (pos a) (negsuc b) = omega (arith, abs_neg (pos (a / suc b)), div-le_self a (suc b))
+abs_quot (negsuc a) (pos b) = omega (arith, abs_neg (pos (suc a / b)), div-le_self (suc a) b)
+abs_quot (negsuc a) (negsuc b) = div-le_self (suc a) (suc b)
 
 pub product_small : (m n : ℕ) (a b : ℤ) → nat_abs a ≤ m → nat_abs b ≤ n → nat_abs (a *ℤ b) ≤ m * n
 product_small m n a b p q = omega (arith, abs_mul a b, mul-le (nat_abs a) (nat_abs b) m n p q)

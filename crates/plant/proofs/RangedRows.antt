@@ -103,3 +103,9 @@ asked_below f j i k h e = let back : j - 1 + 1 ≡ j = omega arith in rw (back, 
 
 pub asked_of_limit : {X : Type 0} (f : ℕ → X) (j : ℕ) → 1 ≤ j → f (j - 1 + 1) ≡ f j
 asked_of_limit f j h = let back : j - 1 + 1 ≡ j = omega arith in rw back
+
+pub alone_here : (i k : ℕ) (z : ℤ) → k ≡ i → alone i z k ≡ z
+alone_here i k z h = rw (eq-eqb k i h)
+
+pub alone_elsewhere : (i k : ℕ) (z : ℤ) → (k ≡ i → ⊥) → alone i z k ≡ pos 0
+alone_elsewhere i k z h = rw (ne_eqb k i h)

@@ -1,6 +1,7 @@
 -- What a plant in bounds answers at places inside its counts.
-use Rattle.std.proofs.Common.{◌≡◌, ℕ, suc, ◌+◌, ◌-◌, ◌<◌, List, length, get_or, ℤ, pos, Some, Option, refl, ap, ◌∙◌, arith}
+use Rattle.std.proofs.Common.{◌≡◌, ℕ, suc, ◌+◌, ◌-◌, ◌<◌, List, length, get_or, ℤ, pos, Some, None, Option, sym, refl, ap, ◌∙◌, subst, arith, w32, SFits, to_z, of_z}
 use Rattle.std.proofs.lemmas.Option.{slice_get-get_or}
+use Rattle.std.proofs.lemmas.Int.{to_z-of_z}
 use Rattle.std.proofs.lemmas.Bool.{ne_eqb}
 use Rattle.exact.specs.Vectors.{entries}
 use Rattle.words.specs.Bounds.{Value}
@@ -9,10 +10,21 @@ use Rattle.plant.specs.Commands.{limit_at, column}
 use Rattle.plant.specs.Tables.{at_place, within}
 use Rattle.tableau.specs.Plants.{commands, limits, rate}
 
--- A question with an answer, and the number that it is.
+-- A question with an answer is not answered by none, and its answer is the number.
 pub record Answered (o : Option ℤ) (z : ℤ) : Type 0 where
   pub there : o ≡ Some z
   pub value : Value z
+
+module _ (o : Option ℤ) (z : ℤ) (a : Answered o z) where
+  pub never_none : None ≡ o → ⊥
+  never_none e = let t = a.there in let bad : ◌≡◌ {A = ℕ} 0 1 = cc in omega arith
+
+  module _ (x : ℤ) (e : Some x ≡ o) (fits : SFits w32 x) where
+    pub number : to_z w32 (of_z w32 x) ≡ z
+    number = let t = a.there in let same : x ≡ z = cc in to_z-of_z w32 x fits ∙ same
+
+    pub value_of : Value (to_z w32 (of_z w32 x))
+    value_of = subst Value (sym number) a.value
 
 at_next : {X : Type 0} (xs : List X) (i : ℕ) (d : X) → i < length xs → at_place xs (i + 1) ≡ Some (get_or xs i d)
 at_next xs i d h =

@@ -1,6 +1,7 @@
 -- The numbers of pairs: each pair of a corner and a limit outside it has one of its own.
-use Rattle.std.proofs.Common.{◌≡◌, ℕ, zero, suc, ◌+◌, ◌<◌, ◌≤◌, Bool, cond, sym, refl, ap, ◌∙◌, inl, inr, arith}
+use Rattle.std.proofs.Common.{◌≡◌, ℕ, zero, suc, ◌+◌, ◌*◌, ◌/◌, ◌<◌, ◌≤◌, Bool, cond, sym, refl, ap, ◌∙◌, inl, inr, mul-le-mul_right, suc-mul, le-div_iff_mul-le, arith}
 use native.Mathlib.Decide.{ℕ_discrete}
+use lib.Arith.{digits_div}
 use Rattle.std.proofs.lemmas.Bool.{cases_order}
 use Rattle.plant.specs.Meaning.{Meaning}
 use Rattle.plant.specs.Commands.{column}
@@ -57,3 +58,10 @@ pub outside_same : (p : Meaning) (X Y : CornerOf p) → HasSameLimits p X Y → 
 unfolding outside_below
 outside_same p X Y same zero = refl
 outside_same p X Y same (suc j) = rw (holds_same p X Y same j, outside_same p X Y same j)
+
+-- Numbers k n + i, with i below n.
+pub at_most : (n k i k' i' : ℕ) → i' < n → k * n + i < k' * n + i' + 1 → k ≤ k'
+at_most n k i k' i' h l = let d : k ≤ (k' * n + i') / n = (le-div_iff_mul-le (omega arith)).1 (omega arith) in rw (digits_div k' h) at d
+
+pub number_below : (n k i k' : ℕ) → k < k' → i < n → k * n + i < k' * n
+number_below n k i k' h l = let a : suc k * n ≤ k' * n = mul-le-mul_right n h in let b : suc k * n ≡ k * n + n = suc-mul k n in omega arith

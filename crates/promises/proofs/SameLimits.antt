@@ -53,7 +53,7 @@ module _ (p : Meaning) (X Y : CornerOf p) (same : HasSameLimits p X Y) where
     };
   }
 
-held : (p : Meaning) (X : CornerOf p) (j : ℕ) → InBasis p X j → holds (commands p) X.β j ≡ true
+pub held : (p : Meaning) (X : CornerOf p) (j : ℕ) → InBasis p X j → holds (commands p) X.β j ≡ true
 held p X j (r, l, e) = ap (holds (commands p) X.β) (sym e) ∙ holds_in (commands p) X.β r l
 
 pub not_held : (p : Meaning) (X : CornerOf p) (j : ℕ) → ¬ InBasis p X j → holds (commands p) X.β j ≡ false

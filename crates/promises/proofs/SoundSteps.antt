@@ -14,7 +14,11 @@ use Rattle.map_steps.specs.Replies.{Reply}
 use Rattle.promises.specs.Histories.{opened}
 use Rattle.promises.proofs.Soundness.{WithinList, CornerInWidth, SoundList, Sound, first_sound, more_sound}
 
--- Only one plant is in force: what holds of it holds of it under every name.
+-- Only one plant is in force.
+pub one_standing : (s t : Standing) → ◌≡◌ {A = Option Standing} (Some s) (Some t) → s ≡ t
+one_standing s t e = cc
+
+-- What holds of it holds of it under every name.
 pub in_force : (P : Meaning → Type 0) {force : Option Standing} (s t : Standing) → force ≡ Some s → force ≡ Some t → P s.meaning → P t.meaning
 in_force P s t f g p = let e : s ≡ t = cc in subst (λ (s : Standing). P s.meaning) e p
 

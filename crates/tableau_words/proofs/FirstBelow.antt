@@ -100,9 +100,16 @@ module _ (p : Meaning) (a : ℕ → ℕ → ℤ) (β : ℕ → ℕ) (D : ℤ) (U
         ];
       }
 
+  pub none_with : SoFar w col j ws xs (commands p) None → (s : ℕ) → s < commands p → β s < j → entry p a U s j ≡ pos 0
+  none_with i s l b = sym (in_column s l) ∙ i s l (under s l b)
+
 -- The answer, for words of a shape.
 pub some_answered : (c : Shape) (j : ℕ) (ws : List ℤ) (q : ℕ) → j < c.limits → LeastBelow (row_width c) (limit_column c j) j ws (drop (first_row c) ws) c.commands q → BelowAnswer c j ws (Some (cell (row_width c) (drop (first_row c) ws) q (limit_column c j)))
 some_answered c j ws q l i = λ p a β D U e H.
     let l' : j < (shape_of p).limits = subst (λ (z : Shape). j < z.limits) e l in
     let i' : LeastBelow (row_width (shape_of p)) (limit_column (shape_of p) j) j ws (drop (first_row (shape_of p)) ws) (commands p) q = subst (λ (z : Shape). LeastBelow (row_width z) (limit_column z j) j ws (drop (first_row z) ws) z.commands q) e i in
     (q, first_with p a β D U ws H j l' q i', subst (λ (z : Shape). cell (row_width z) (drop (first_row z) ws) q (limit_column z j) ≡ entry p a U q j) (sym e) (in_column p a β D U ws H j l' q i'.inside))
+
+pub none_answered : (c : Shape) (j : ℕ) (ws : List ℤ) → j < c.limits → SoFar (row_width c) (limit_column c j) j ws (drop (first_row c) ws) c.commands None → BelowAnswer c j ws None
+none_answered c j ws l i = λ p a β D U e H.
+    none_with p a β D U ws H j (subst (λ (z : Shape). j < z.limits) e l) (subst (λ (z : Shape). SoFar (row_width z) (limit_column z j) j ws (drop (first_row z) ws) z.commands None) e i)

@@ -1,17 +1,23 @@
 -- The sum of a column at readings, term by term.
-use Rattle.std.proofs.Common.{◌≡◌, ℕ, suc, ◌+◌, ◌<◌, List, ℤ, ◌+ℤ◌, ◌*ℤ◌, refl, ap, ◌∙◌, subst, add-zero, arith}
+use Rattle.std.proofs.Common.{◌≡◌, ℕ, suc, ◌+◌, ◌*◌, ◌<◌, List, get_or, drop, ℤ, pos, ◌+ℤ◌, ◌*ℤ◌, sym, refl, ap, ◌∙◌, subst, add-mul, add-zero, arith}
+use Rattle.std.proofs.lemmas.List.{get_or-drop}
 use Rattle.exact.specs.Vectors.{sum, entries}
 use Rattle.exact.proofs.Ring.{lin, one-*}
 use Rattle.exact.proofs.Sums.{sum_cong, sum_more}
 use Rattle.plant.specs.Meaning.{Meaning, shape_of}
+use Rattle.rows.specs.Cells.{cell}
 use Rattle.tableau.specs.Plants.{with_one}
 use Rattle.tableau.specs.Readings.{at_reading}
 use Rattle.words.specs.declared.counts.Shape.{Shape}
-use Rattle.tableau_words.specs.Layout.{row_width, limit_column, number_at}
+use Rattle.tableau_words.specs.Layout.{row_width, limit_column, first_row, number_at}
 use Rattle.tableau_words.specs.Held.{reading_row, Held}
 use Rattle.tableau_words.specs.Readings.{column_at}
 use Rattle.tableau_words.specs.Slacks.{SlackAnswer}
 use Rattle.tableau_words.proofs.Across.{in_reading_limit}
+
+-- The rows of the constants and of the readings begin here.
+abbrev pub first_reading : Shape → ℕ
+first_reading c = first_row c + c.commands * row_width c
 
 -- Term k of the sum of a column.
 abbrev pub term : Shape → List ℤ → List ℤ → ℕ → ℕ → ℤ
@@ -26,6 +32,18 @@ next_term c θ ws i k =
     let e : suc k ≡ k + 1 = omega arith in
     let f : 1 + k ≡ k + 1 = omega arith in
     rw f (sum_more (k + 1) (term c θ ws i) ∙ ap (λ z. sum (k + 1) (term c θ ws i) +ℤ z *ℤ number_at c ws (c.commands + (k + 1)) i) (subst (λ n. with_one θ n ≡ entries θ k) e refl))
+
+-- The number of a reading's row in the words.
+pub number_of_reading : (c : Shape) (ws : List ℤ) (k i : ℕ) → cell (row_width c) (drop (first_reading c) ws) k i ≡ number_at c ws (c.commands + k) i
+number_of_reading c ws k i =
+    let e : first_reading c + (k * row_width c + i) ≡ first_row c + ((c.commands + k) * row_width c + i) = omega (arith, add-mul c.commands k (row_width c)) in
+    get_or-drop (first_reading c) ws (k * row_width c + i) _ ∙ ap (λ n. get_or ws n (pos 0)) e ∙ sym (get_or-drop (first_row c) ws ((c.commands + k) * row_width c + i) _)
+
+-- The sum of the terms, in the words.
+pub column_sum : (c : Shape) (θ ws : List ℤ) (i : ℕ) → sum (c.readings + 1) (term c θ ws i) ≡ column_at c θ ws i
+column_sum c θ ws i =
+    let one_more : c.readings + 1 ≡ suc c.readings = omega arith in
+    rw one_more refl
 
 -- In words that hold a tableau, it is the column of the tableau's rows at the readings.
 pub held_column : (p : Meaning) (a : ℕ → ℕ → ℤ) (β : ℕ → ℕ) (D : ℤ) (U : ℕ → ℕ → ℤ) (θ ws : List ℤ) (i : ℕ) → Held p a β D U ws → i < row_width (shape_of p)

@@ -44,6 +44,12 @@ module _ (m : ℕ) (a : ℕ → ℕ → ℤ) (β : ℕ → ℕ) (D : ℤ) (U : �
 
 -- The answers, for words of a shape.
 module _ (c : Shape) (θ : List ℤ) (j : ℕ) (ws : List ℤ) (z : ℤ) (S : SlackAnswer c θ j ws z) where
+  pub negative_answered : z <ℤ pos 0 → WillingAnswer c θ j ws true
+  negative_answered h = λ p a β D U e T H. negative (subst (λ x. x <ℤ pos 0) (S p a β D U e H) h)
+
+  pub positive_answered : pos 0 <ℤ z → WillingAnswer c θ j ws false
+  positive_answered h = λ p a β D U e T H. positive_unwilling (commands p) a β D U T.inverse (slack_of p a β D U θ j) j (subst (λ x. pos 0 <ℤ x) (S p a β D U e H) h)
+
   pub none_below_answered : z ≡ pos 0 → BelowAnswer c j ws None → WillingAnswer c θ j ws false
   none_below_answered h N = λ p a β D U e T H. none_unwilling (commands p) a β D U T.inverse (slack_of p a β D U θ j) j (sym (S p a β D U e H) ∙ h) (N p a β D U e H)
 

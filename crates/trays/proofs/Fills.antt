@@ -2,7 +2,7 @@
 use Rattle.std.proofs.Common.{◌≡◌, ℕ, suc, ◌+◌, ◌-◌, ◌<◌, ◌≤◌, List, [], ◌∷◌, ◌++◌, map, length, take, drop, set, replicate, ℤ, pos, sym, refl, ap, ◌∙◌, arith}
 use mathlib.Core.List.{map-map}
 use Rattle.std.specs.List.{range_with_len}
-use Rattle.std.proofs.lemmas.List.FromFn.{length-map-range_with_len, get_or-map-range_with_len, fill_by_all}
+use Rattle.std.proofs.lemmas.List.FromFn.{length-map-range_with_len, get_or-map-range_with_len, map-range_with_len_more, fill_by_all}
 use Rattle.std.proofs.lemmas.List.{append_assoc, length-append, length-map, length_push, map-append, set-append_right, take_at, drop_at, drop-replicate}
 use Rattle.exact.specs.Vectors.{entries}
 use Rattle.trays.specs.Trays.{tray_size, filled, first, fraction_list}
@@ -17,6 +17,12 @@ fill_more xs z h =
 
 pub first_length : (m : ℕ) (f : ℕ → ℤ) → length (first m f) ≡ m
 first_length m f = length-map-range_with_len f 0 m
+
+-- A loop that fills in the numbers of a vector.
+pub vector_more : (f : ℕ → ℤ) (i : ℕ) → i < tray_size → set (filled (first i f)) i (f i) ≡ filled (first (i + 1) f)
+vector_more f i h =
+    let n = first_length i f in
+    ap (λ k. set (filled (first i f)) k (f i)) (sym n) ∙ fill_more (first i f) (f i) (omega arith) ∙ ap filled (sym (map-range_with_len_more f 0 i i (omega arith)))
 
 -- A loop that has written the numbers of a vector in front of zeros.
 pub vector_filled : (m : ℕ) (f : ℕ → ℤ) (xs : List ℤ) → length xs ≡ m → ((i : ℕ) → i < m → entries xs i ≡ f i) → xs ++ drop m (replicate tray_size (pos 0)) ≡ filled (first m f)

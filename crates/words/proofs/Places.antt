@@ -1,5 +1,5 @@
 -- The state in the middle of a part, and the kind that is due there.
-use Rattle.std.proofs.Common.{◌≡◌, ℕ, suc, ◌+◌, ◌-◌, ◌*◌, ◌%◌, ◌<◌, ◌≤◌, Bool, true, false, cond, eqb, ltb, List, length, get_or, is_some, Some, None, sym, refl, ap, ◌∙◌, subst, ⊎_elim, suc-mul, zero-mul, arith, below_more}
+use Rattle.std.proofs.Common.{◌≡◌, ℕ, suc, ◌+◌, ◌-◌, ◌*◌, ◌%◌, ◌<◌, ◌≤◌, Bool, true, false, cond, eqb, ltb, List, length, get_or, is_some, Some, None, Option, sym, refl, ap, ◌∙◌, subst, ⊎_elim, suc-mul, zero-mul, arith, below_more}
 use Rattle.std.proofs.lemmas.Nat.{mod-mul-add, mul-le}
 use Rattle.std.proofs.lemmas.Bool.{lt-ltb, le-ltb, le-leb, lt-leb, eq-eqb, ne_eqb, eqb-true, and_parts, cases_lt}
 use Rattle.std.proofs.lemmas.Bool.Decides.{nat_tests}
@@ -13,6 +13,10 @@ use Rattle.words.specs.declared.counts.Shape.{Shape}
 use Rattle.words.specs.declared.kind.Kind.TheVariants.{Gain as GainKind, Close as CloseKind}
 use Rattle.words.specs.declared.state.State.{State}
 use Rattle.words.specs.declared.state.State.TheVariants.{Head, Gain, Coefficient, Constant, Slope, Close, Done}
+
+pub no_fault : {X : Type 0} (o : Option X) → is_some o ≡ false → o ≡ None
+no_fault None e = refl
+no_fault (Some x) e = let z : ◌≡◌ {A = ℕ} 0 1 = cc in absurd (omega arith)
 
 made : (m n d : ℕ) → Shape
 made m n d = record { commands = m; limits = n; readings = d }
@@ -70,7 +74,7 @@ PartState w (Close c) i t = t ≡ cond (eqb i 0) (Close c) (Done c)
 PartState w (Done c) i t = t ≡ Done c
 
 -- Before any word of the part.
-at_first : (w : ℕ) (s : State) → opens s ≡ true → PartState w s 0 s
+pub at_first : (w : ℕ) (s : State) → opens s ≡ true → PartState w s 0 s
 at_first w Head o = (λ e. refl, λ h. absurd (omega arith))
 at_first w (Gain c left) o = let f = c.fit in let e : left ≡ c.shape.commands = eqb-true left c.shape.commands o in grind (arith, nat_tests)
 at_first w (Coefficient c left limits) o = let f = c.fit in let e : left ≡ c.shape.commands = eqb-true left c.shape.commands (and_parts (eqb left c.shape.commands) _ o).0 in grind (arith, nat_tests)
@@ -99,7 +103,7 @@ past_head w (Close c) t n m = m
 past_head w (Done c) t n m = m
 
 -- One word more.
-moves : (w v : ℕ) (s t u : State) (i : ℕ) → opens s ≡ true → i < span s → (begins s ≡ 0 → v ≡ w) → PartState w s i t → Moved v t u → PartState w s (i + 1) u
+pub moves : (w v : ℕ) (s t u : State) (i : ℕ) → opens s ≡ true → i < span s → (begins s ≡ 0 → v ≡ w) → PartState w s i t → Moved v t u → PartState w s (i + 1) u
 moves w v Head t u i o h z p m =
     let e : i ≡ 0 = omega arith in
     (λ q. absurd (omega arith), λ q. subst (λ x. Opened (shape_in x) u) (z refl) (subst (λ x. Moved v x u) (p.0 e) m))
@@ -122,7 +126,7 @@ pub limits_left : (c : Counts) (left limits : ℕ) → opens (Coefficient c left
 limits_left c left limits o = grind (arith, nat_tests)
 
 -- The kind due there.
-expected : (w : ℕ) (s t : State) (i : ℕ) (c : Shape) → shape_told c s ≡ c → opens s ≡ true → i < span s → PartState w s i t → expects t ≡ Some (due c (begins s + i))
+pub expected : (w : ℕ) (s t : State) (i : ℕ) (c : Shape) → shape_told c s ≡ c → opens s ≡ true → i < span s → PartState w s i t → expects t ≡ Some (due c (begins s + i))
 expected w Head t i c q o h p = let e : i ≡ 0 = omega arith in rw e (ap expects (p.0 e))
 expected w (Gain a left) t i c q o h p =
     let e : left ≡ a.shape.commands = eqb-true left a.shape.commands o in
@@ -142,7 +146,7 @@ expected w (Close a) t i c q o h p =
 expected w (Done a) t i c q o h p = absurd (omega arith)
 
 -- No part reaches past the close.
-inside : (s : State) (i : ℕ) (c : Shape) → shape_told c s ≡ c → opens s ≡ true → i < span s → begins s + i ≤ close_place c
+pub inside : (s : State) (i : ℕ) (c : Shape) → shape_told c s ≡ c → opens s ≡ true → i < span s → begins s + i ≤ close_place c
 inside Head i c t o h = omega arith
 inside (Gain a left) i c t o h = let q : left ≡ a.shape.commands = eqb-true left a.shape.commands o in rw (← t) (omega arith)
 inside (Coefficient a left limits) i c t o h =
@@ -194,7 +198,7 @@ module _ (ws : List ℕ) (k : ℕ) where
   head_ends (Close c) o p r l = absurd o
   head_ends (Done c) o p r l = absurd o
 
-  ends : (s t : State) → Stands ws k s → RightBefore ws (k + span s) → k + span s ≤ length ws → PartState (get_or ws 0 0) s (span s) t → Stands ws (k + span s) t
+  pub ends : (s t : State) → Stands ws k s → RightBefore ws (k + span s) → k + span s ≤ length ws → PartState (get_or ws 0 0) s (span s) t → Stands ws (k + span s) t
   ends Head t S r l p = head_ends t (p.1 (omega arith)) S.placed r l
   ends (Gain c left) t S r l p =
       let q : left ≡ c.shape.commands = eqb-true left c.shape.commands S.opened in
@@ -266,7 +270,7 @@ module _ {ws : List ℕ} {k : ℕ} {s : State} (S : Stands ws k s) where
       not_past : at ≤ close_place (shape_of ws)
       not_past = omega (arith, place, before_close (at - k) inner)
 
-      due_here : due_fault (expects t) (get_or ws at 0) at ≡ fault ws at
+      pub due_here : due_fault (expects t) (get_or ws at 0) at ≡ fault ws at
       due_here =
           let here : begins s + (at - k) ≡ at = omega (arith, place, S.placed) in
           ap (λ x. due_fault x (get_or ws at 0) at) (expected (get_or ws 0 0) s t (at - k) (shape_of ws) told S.opened inner R.state ∙ ap (λ a. Some (due (shape_of ws) a)) here)

@@ -43,7 +43,10 @@ module _ (c : Shape) (j : ℕ) (ws : List ℤ) where
     pub crossed_out : (x : Beyond) → EnterAnswer c j ws after (Err OutOfWidth) → CrossAnswer c j ws (Err x)
     crossed_out x A = entered (Err OutOfWidth) A
 
-  -- The limit that leaves is one of the plant's.
+  -- The limit that leaves is one of the plant's, and its row leaves.
   module _ (l : ℕ) (L : LeftAnswer c j ws (Some l)) where
     pub left_known : SomeCorner c ws → l < c.limits
     left_known S = let (q, leaves, e) = L S.p S.X S.shape S.holds in rw (S.shape, e) (S.X.known q leaves.inside)
+
+    pub row_left : SomeRow c j ws
+    row_left p X s H = let (q, leaves, e) = L p X s H in (q, leaves)

@@ -1,9 +1,10 @@
 -- What stands in an array that a closure made, place by place.
-use Rattle.std.proofs.Common.{◌≡◌, ℕ, zero, suc, ◌+◌, ◌<◌, ◌≤◌, List, [], length, ℤ, pos, sym, subst, ⊎_elim, arith, get_or}
+use Rattle.std.proofs.Common.{◌≡◌, ℕ, zero, suc, ◌+◌, ◌<◌, ◌≤◌, List, [], length, ℤ, pos, None, Option, sym, ap, ◌∙◌, subst, ⊎_elim, arith, get_or}
 use Rattle.std.proofs.lemmas.Bool.{cases_eq, cases_lt}
 use Rattle.std.proofs.lemmas.List.{get_or_past}
 use Rattle.exact.specs.Vectors.{entries}
 use Rattle.words.specs.Bounds.{Value}
+use Rattle.plant.specs.Ranged.{or_zero}
 use Rattle.plant.specs.WrittenBounds.{zero_is_value}
 use Rattle.plant_table.specs.Places.{AllValues, AllRowsValues, row}
 use Rattle.std.specs.Array.{IsFromFnResultFrom, IsFromFnResult}
@@ -23,6 +24,13 @@ module _ {F B : Type 0} (g : Mut F (ℕ × Unit {0}) B) (f : F) (P : ℕ → B �
 
   pub each : IsFromFnResult g f ys m → (k : ℕ) → k < m → P k (get_or ys k d)
   each R k h = each_from 0 m (omega arith) R.each k (omega arith) h
+
+-- Numbers asked for within a count, and 0 past it, where there is no answer.
+pub all_same : (m n : ℕ) (o : ℕ → Option ℤ) (ys : List ℤ) → ((i : ℕ) → i < m → i < n → entries ys i ≡ or_zero (o i)) → ((i : ℕ) → i < m → n ≤ i → entries ys i ≡ pos 0) → ((i : ℕ) → n ≤ i → o i ≡ None) → (i : ℕ) → i < m → entries ys i ≡ or_zero (o i)
+all_same m n o ys answers zeros none i h = ⊎_elim
+    (λ l. answers i h l)
+    (λ l. zeros i h l ∙ sym (ap or_zero (none i l)))
+    (cases_lt i n)
 
 -- Where each number asked for is one of a plant, so are those of the array.
 pub all_values : (m : ℕ) (h : ℕ → ℤ) (ys : List ℤ) → length ys ≡ m → ((i : ℕ) → i < m → entries ys i ≡ h i) → ((i : ℕ) → Value (h i)) → AllValues ys

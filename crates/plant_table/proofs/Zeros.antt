@@ -5,7 +5,7 @@ use Rattle.words.specs.Bounds.{Value}
 use Rattle.plant.specs.WrittenBounds.{zero_is_value}
 use Rattle.plant_table.specs.Places.{AllValues, AllRowsValues}
 
-zeros : (n i : ℕ) → entries (replicate n (pos 0)) i ≡ pos 0
+pub zeros : (n i : ℕ) → entries (replicate n (pos 0)) i ≡ pos 0
 zeros zero i = refl
 zeros (suc n) zero = refl
 zeros (suc n) (suc i) = zeros n i

@@ -40,10 +40,10 @@ number_of_reading c ws k i =
     get_or-drop (first_reading c) ws (k * row_width c + i) _ ∙ ap (λ n. get_or ws n (pos 0)) e ∙ sym (get_or-drop (first_row c) ws ((c.commands + k) * row_width c + i) _)
 
 -- The sum of the terms, in the words.
-pub column_sum : (c : Shape) (θ ws : List ℤ) (i : ℕ) → sum (c.readings + 1) (term c θ ws i) ≡ column_at c θ ws i
+pub column_sum : (c : Shape) (θ ws : List ℤ) (i : ℕ) → sum (c.readings + 1) (λ k. with_one θ k *ℤ cell (row_width c) (drop (first_reading c) ws) k i) ≡ column_at c θ ws i
 column_sum c θ ws i =
     let one_more : c.readings + 1 ≡ suc c.readings = omega arith in
-    rw one_more refl
+    rw one_more (sum_cong (suc c.readings) _ _ (λ k h. ap (λ x. with_one θ k *ℤ x) (number_of_reading c ws k i)))
 
 -- In words that hold a tableau, it is the column of the tableau's rows at the readings.
 pub held_column : (p : Meaning) (a : ℕ → ℕ → ℤ) (β : ℕ → ℕ) (D : ℤ) (U : ℕ → ℕ → ℤ) (θ ws : List ℤ) (i : ℕ) → Held p a β D U ws → i < row_width (shape_of p)

@@ -25,13 +25,14 @@ impl State {
     pub(crate) fn step(&mut self, word: u32, at: usize) -> Result<(), Refusal>
         ensures { Stepped word at self.old self.new result }
     {
-        match (&mut *self, kind_of(word)) {
-            (State::Head, Some(Kind::Head)) => {
+        let kind = kind_of(word).ok_or(Refusal::WrongKind(at))?;
+        match (&mut *self, kind) {
+            (State::Head, Kind::Head) => {
                 let counts = Counts::in_head(word).ok_or(Refusal::Counts)?;
                 *self = State::Gain(counts, counts.shape.commands);
                 return Ok(());
             }
-            (State::Close(counts), Some(Kind::Close)) => {
+            (State::Close(counts), Kind::Close) => {
                 // The cast keeps the number: a payload has 28 bits.
                 if payload_bits(word) as usize != at {
                     return Err(Refusal::Close(at));
@@ -39,17 +40,17 @@ impl State {
                 *self = State::Done(*counts);
                 return Ok(());
             }
-            (State::Gain(_, left), Some(Kind::Gain)) if *left > 1 => *left -= 1,
-            (State::Coefficient(_, left, _), Some(Kind::Coefficient)) if *left > 1 => *left -= 1,
-            (State::Slope(_, left, _), Some(Kind::Slope)) if *left > 1 => *left -= 1,
-            (State::Gain(counts, _), Some(Kind::Gain)) => {
+            (State::Gain(_, left), Kind::Gain) if *left > 1 => *left -= 1,
+            (State::Coefficient(_, left, _), Kind::Coefficient) if *left > 1 => *left -= 1,
+            (State::Slope(_, left, _), Kind::Slope) if *left > 1 => *left -= 1,
+            (State::Gain(counts, _), Kind::Gain) => {
                 let shape = counts.shape;
                 *self = State::Coefficient(*counts, shape.commands, shape.limits);
             }
-            (State::Coefficient(counts, _, limits), Some(Kind::Coefficient)) => {
+            (State::Coefficient(counts, _, limits), Kind::Coefficient) => {
                 *self = State::Constant(*counts, *limits);
             }
-            (State::Constant(counts, limits), Some(Kind::Constant)) => {
+            (State::Constant(counts, limits), Kind::Constant) => {
                 let readings = counts.shape.readings;
                 *self = if readings > 0 {
                     State::Slope(*counts, readings, *limits)
@@ -57,7 +58,7 @@ impl State {
                     next_limit(*counts, *limits)
                 };
             }
-            (State::Slope(counts, _, limits), Some(Kind::Slope)) => {
+            (State::Slope(counts, _, limits), Kind::Slope) => {
                 *self = next_limit(*counts, *limits);
             }
             _ => return Err(Refusal::WrongKind(at)),

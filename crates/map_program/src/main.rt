@@ -35,7 +35,8 @@ fn print_line(rt: &HostRuntime, line: Line<'_>) -> anyhow::Result<()> {
 
 // How far the map has grown, or what stopped it.
 fn print_growth(rt: &HostRuntime, log: &[Entry]) -> anyhow::Result<()> {
-    let replies: Vec<Reply> = log.iter().map(|entry| entry.reply).collect(rt.alloc())?;
+    let mut replies = Vec::with_capacity(rt.alloc(), log.len())?;
+    replies.extend(log.iter().map(|entry| entry.reply))?;
     match growth(&replies) {
         Ok(mapped) => print_line(rt, Line::Map(mapped)),
         Err(refusal) => print_line(rt, Line::Refused(refusal)),

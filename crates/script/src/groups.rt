@@ -84,8 +84,9 @@ pub fn numbers(
     requires { from + count ≤ length words.now }
     ensures { IfOk result (λ v. (length v.items ≡ count) × Payloads words.now from count v.items) }
 {
-    words[from..from + count]
-        .iter()
-        .map(|&word| i64::from(payload(word)))
-        .collect(alloc)
+    // The room is made at once: `collect` would make it anew, twice as large, each time it is full.
+    let mut numbers = Vec::with_capacity(alloc, count)?;
+    let words = &words[from..from + count];
+    numbers.extend(words.iter().map(|&word| i64::from(payload(word))))?;
+    Ok(numbers)
 }

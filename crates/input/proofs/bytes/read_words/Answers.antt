@@ -1,6 +1,5 @@
-use Rattle.std.proofs.Common.{◌≡◌, ◌∙◌, length, take, vec_len, subst, rules, IfOk, arith, length-take, take_all}
+use Rattle.std.proofs.Common.{◌≡◌, ◌∙◌, length, take, vec_len, subst, rules, arith, length-take, take_all}
 use Rattle.std.proofs.lemmas.List.{take-append-le}
-use Rattle.std.proofs.lemmas.Result.{IfOk-weaker}
 use Rattle.input.specs.Bytes.{WordsOf}
 use Rattle.input.proofs.Chunks.{words_of_source}
 use Rattle.input.proofs.bytes.read_words.Goals as goal
@@ -13,5 +12,5 @@ returns g c =
     let room : length bytes ≡ 65536 = search rules in
     let long : len ≡ length bytes = search rules in
     let same : c.deref.result.now ≡ bytes = c.deref.ensures.value ∙ take-append-le len bytes _ (omega arith) ∙ take_all len bytes (omega arith) in
-    let made : IfOk c.map_err-2.result (λ v. WordsOf (take filled c.deref.result.now) v.items) = search rules in
-    IfOk-weaker c.map_err-2.result _ _ (λ v W. words_of_source _ _ (take filled bytes) v.items c.in_ok-filled.ensures.read (λ short. c.in_ok-filled.ensures.end (omega (arith, length-take filled bytes))) (subst (λ l. WordsOf (take filled l) v.items) same W)) made
+    let made : WordsOf (take filled c.deref.result.now) c.add_words.new.words.items = search rules in
+    words_of_source _ _ (take filled bytes) _ c.in_ok-filled.ensures.read (λ short. c.in_ok-filled.ensures.end (omega (arith, length-take filled bytes))) (subst (λ l. WordsOf (take filled l) c.add_words.new.words.items) same made)

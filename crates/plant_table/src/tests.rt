@@ -1,4 +1,4 @@
-// Plant K, whose numbers are worked out by hand, the blank table, and which questions a table asks its plant.
+// Plant K, whose numbers are worked out by hand, the blank table, and how many questions a table asks its plant.
 ghost use Rattle.std.specs.Prelude.{◌≡◌};
 ghost use Rattle.plant.specs.Written.{said};
 ghost use Rattle.plant.specs.WrittenBounds.{written_kind, written_bounded};

@@ -21,7 +21,7 @@ use plant::ranged::Ranged;
 use plant::written::Written;
 use script::groups::{closing, grouped, numbers};
 use script::growth::{RECORDS, enough_grows, growth};
-use script::line::{Line, line_of};
+use script::line::{Line, line_of_tray};
 use trays::tray::TRAY;
 use words::counts::Shape;
 
@@ -47,7 +47,7 @@ fn print_growth(rt: &HostRuntime, log: &[Entry]) -> anyhow::Result<()> {
 fn print_reply(rt: &HostRuntime, entry: &Entry, commands: usize) -> anyhow::Result<()>
     requires { commands ≤ most_commands }
 {
-    match line_of(entry.reply, commands + BEHIND_NUMERATORS, &entry.tray) {
+    match line_of_tray(entry.reply, commands + BEHIND_NUMERATORS, &entry.tray) {
         Some(line) => print_line(rt, line),
         None => Ok(()),
     }

@@ -24,7 +24,7 @@ text_of (Map g) = codes "map " ++ two g.corners g.pairs
 text_of (Best b) = codes "best" ++ (spaced b.command.now ++ (codes " " ++ two b.at.mask b.at.exchanges))
 text_of (Refused e) = codes "none " ++ refusal_text e
 
--- The line of the reply to a start or a solve, with the numbers of a command: at line_of, the first so many of the tray. Replies to other calls have none.
+-- The line of the reply to a start or a solve, with the numbers of a command: at line_of_tray, the first so many of the tray. Replies to other calls have none.
 abbrev pub ToldBy : Reply → List ℤ → Option Line → Type 0
 ToldBy (Ok (done.Start a)) command line = line ≡ Some (First a)
 ToldBy (Ok (done.Solve a)) command line = (b : Found) × (line ≡ Some (Best b)) × (b.command.now ≡ command) × (b.at ≡ a)

@@ -4,3 +4,5 @@
 pub mod groups;
 pub mod growth;
 pub mod line;
+#[cfg(test)]
+mod tests;

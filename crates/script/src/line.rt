@@ -61,8 +61,21 @@ impl<'a> fmt::Display for Line<'a> {
     }
 }
 
+// The line that tells the reply to a start or a solve, with the numbers of the command. Replies to other calls have no line of their own.
+pub fn line_of<'a>(reply: Reply, command: &'a [i64]) -> Option<Line<'a>>
+    ensures { ToldBy reply command.now result }
+{
+    match reply {
+        Ok(Done::Start(at)) => Some(Line::First(at)),
+        Ok(Done::Solve(at)) => Some(Line::Best(Found { command, at })),
+        Ok(Done::Grow(_) | Done::Answer(_)) => None,
+        Err(refusal) => Some(Line::Refused(refusal)),
+    }
+}
+
 // The line that tells the reply to a start or a solve, with so many numbers of the tray. Replies to other calls have no line of their own.
-pub fn line_of<'a>(reply: Reply, shown: usize, tray: &'a [i64; TRAY]) -> Option<Line<'a>>
+// Not by `line_of`, whose caller cuts the command: the tray is cut here, so that the contract says which of its numbers are told.
+pub fn line_of_tray<'a>(reply: Reply, shown: usize, tray: &'a [i64; TRAY]) -> Option<Line<'a>>
     ensures { ToldBy reply (take shown tray.now) result }
 {
     match reply {
